@@ -1,0 +1,28 @@
+-- The refusal of the code and document 01's number for it. Document 01, "Refusal numbers".
+-- In order: refusalNumber.
+-- Assumes nothing.
+use Prim.Native.Nat.{ℕ}
+use Rattle.format.specs.declared.refusal.Refusal.{Refusal}
+use Rattle.format.specs.declared.refusal.Refusal.the-variants.{PageLength, NoEntries, CompressedCount, PrefixLength, BodyTooLong, OffsetsFall, EntryBits, KeysNotAscending, OutputLength, MalformedRecord, EditOutside, NoEdits, NewKeysNotAscending, NoRoom, UndoTooShort, IndexPastEnd, NotBelow, RangeOutside, Unrepresentable}
+
+-- The number of a refusal.
+abbrev pub refusalNumber : Refusal → ℕ
+refusalNumber PageLength = 1
+refusalNumber NoEntries = 2
+refusalNumber CompressedCount = 3
+refusalNumber PrefixLength = 4
+refusalNumber BodyTooLong = 5
+refusalNumber OffsetsFall = 6
+refusalNumber EntryBits = 7
+refusalNumber KeysNotAscending = 8
+refusalNumber OutputLength = 9
+refusalNumber MalformedRecord = 10
+refusalNumber EditOutside = 11
+refusalNumber NoEdits = 12
+refusalNumber NewKeysNotAscending = 13
+refusalNumber NoRoom = 14
+refusalNumber UndoTooShort = 15
+refusalNumber IndexPastEnd = 16
+refusalNumber NotBelow = 17
+refusalNumber RangeOutside = 18
+refusalNumber Unrepresentable = 19

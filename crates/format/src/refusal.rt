@@ -1,0 +1,74 @@
+// The refusals of document 01, a case for each, named by its cause. Its number: `refusalNumber` of
+// specs/Refusals.antt.
+ghost use mathlib.Core.Path.{_≡_};
+ghost use Rattle.format.specs.Refusals.{refusalNumber};
+
+pub enum Refusal {
+    // 1: the page's length is not 4,096.
+    PageLength,
+    // 2: n = 0.
+    NoEntries,
+    // 3: m = 0 or m > n.
+    CompressedCount,
+    // 4: q > 256.
+    PrefixLength,
+    // 5: 6n > 4,086, or body bytes with the last end offset > 4,086.
+    BodyTooLong,
+    // 6: an end offset below the one before.
+    OffsetsFall,
+    // 7: an entry whose bits are 0 or over 256.
+    EntryBits,
+    // 8: the page's keys are not strictly ascending.
+    KeysNotAscending,
+    // 9: the output page is not 4,096 bytes.
+    OutputLength,
+    // 10: the edit record is short, has a kind 3, extra bytes or nonzero padding.
+    MalformedRecord,
+    // 11: an Update's position or a Keep's range that the base does not have.
+    EditOutside,
+    // 12: the record has no edits.
+    NoEdits,
+    // 13: the new keys are not strictly ascending.
+    NewKeysNotAscending,
+    // 14: no permitted choice has body bytes of at most 4,086.
+    NoRoom,
+    // 15: the undo buffer is shorter than the undo record.
+    UndoTooShort,
+    // 16: the entry index is n or more.
+    IndexPastEnd,
+    // 17: separate with a >= b.
+    NotBelow,
+    // 18: a bit range outside its slice.
+    RangeOutside,
+    // 19: more than 256 bits for a key, or a size below zero or past 64 bits.
+    Unrepresentable,
+}
+
+impl Refusal {
+    // Document 01's number.
+    pub fn number(self) -> u64
+        ensures answer { λ r. ⌜ r ≡ refusalNumber self ⌝ }
+    {
+        match self {
+            Refusal::PageLength => 1,
+            Refusal::NoEntries => 2,
+            Refusal::CompressedCount => 3,
+            Refusal::PrefixLength => 4,
+            Refusal::BodyTooLong => 5,
+            Refusal::OffsetsFall => 6,
+            Refusal::EntryBits => 7,
+            Refusal::KeysNotAscending => 8,
+            Refusal::OutputLength => 9,
+            Refusal::MalformedRecord => 10,
+            Refusal::EditOutside => 11,
+            Refusal::NoEdits => 12,
+            Refusal::NewKeysNotAscending => 13,
+            Refusal::NoRoom => 14,
+            Refusal::UndoTooShort => 15,
+            Refusal::IndexPastEnd => 16,
+            Refusal::NotBelow => 17,
+            Refusal::RangeOutside => 18,
+            Refusal::Unrepresentable => 19,
+        }
+    }
+}
