@@ -1,4 +1,19 @@
--- Worked cases of the definitions of specs/, by computation. Read in this order.
+-- Laws of the definitions of specs/, each stated once, and worked cases by computation. Read in this order.
+pub mod AnswerLaws
+pub mod BitsLaws
+pub mod KeyLaws
+pub mod EntryLaws
+pub mod StoredLaws
+pub mod ChoiceLaws
+pub mod SizesLaws
+pub mod PageLaws
+pub mod AcceptedLaws
+pub mod NormalLaws
+pub mod RecordLaws
+pub mod EditLaws
+pub mod UndoLaws
+pub mod WalkLaws
+pub mod BuildLaws
 pub mod Samples
 pub mod Table
 pub mod Sides

@@ -44,6 +44,12 @@ pub enum Refusal {
     Unrepresentable,
 }
 
+// What a call answers that only writes: it is done, or refused. Its number: `outcomeNumber`.
+pub enum Outcome {
+    Done,
+    Refused(Refusal),
+}
+
 impl Refusal {
     // Document 01's number.
     pub fn number(self) -> u64

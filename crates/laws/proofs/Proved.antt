@@ -1,0 +1,203 @@
+-- Each promise of `specs/Theorems.antt` is kept: by the laws of `format`.
+-- In order: as the statements stand.
+-- Not here: the laws (`Rattle.format.proofs`); that the hypotheses can be met (`Instances`).
+-- Assumes nothing.
+use mathlib.Core.List.{List, _∷_, map}
+use mathlib.Core.Path.{_≡_, sym, ap, subst, _∙_}
+use Prim.Native.Nat.{ℕ, suc, _≤_}
+use native.Mathlib.Omega.{arith}
+use lib.ListN.{length}
+use Rattle.format.specs.Key.{separatorLength}
+use Rattle.format.specs.Answer.{Answer, NoneHolds}
+use Rattle.format.specs.Page.{Entry, entries, pageTests, pageRefusal}
+use Rattle.format.specs.Sizes.{wholeFromStored}
+use Rattle.format.specs.Normal.{sum, Permitted, storedLengths, keys, normalPage}
+use Rattle.format.specs.Edit.{Edit, noEntry, apply}
+use Rattle.format.specs.Build.{Numbers, Built, buildTests, build}
+use Rattle.format.proofs.AnswerLaws.{first-holds, firstHolds-first}
+use Rattle.format.proofs.EntryLaws.{Ascending, ascending-keys, length-keys}
+use Rattle.format.proofs.ChoiceLaws.{permitted-longer, bitsUnder-sum, choice-best, choice-permitted, choice-bits, choice-last, choice-fewest, fits-false}
+use Rattle.format.proofs.SizesLaws.{storedFromWhole-stored, wholeFromStored-stored}
+use Rattle.format.proofs.AcceptedLaws.{accepted-pageRefusal, readEntry-outside, entries-fewest}
+use Rattle.format.proofs.NormalLaws.{length-normalPage, allBelow-normalPage, pageNumber-normalPage, count-normalPage, entries-normalPage, pageRefusal-normalPage, checkPage-normalPage, readEntry-normalPage}
+use Rattle.format.proofs.RecordLaws.{AcceptedRecord, readRecord-recordOf, readRecord-accepted}
+use Rattle.format.proofs.UndoLaws.{apply-undoEdits, anyOutside-undoEdits, undoEdits-apart}
+use Rattle.format.proofs.BuildLaws.{Acceptable, Done, NotDone, noneHolds-buildTests, acceptable-buildTests, build-accepts, build-acceptable, accepted-answer, build-done, build-refused, build-firstHolds, build-same-entries, build-no-edits, refused-answer}
+use Rattle.laws.proofs.BackLaws.{Held, held-base, build-back, build-back-normal, build-forth, build-undo-bound, build-no-base}
+use Rattle.laws.specs.Theorems.{Rising, ReadBack, CheckedBack, Fewest, Tie, PermittedChoice, Room, LaterLonger, SumFormula, StoredFromWhole, WholeFromStored, BaseFits, BaseBits, RecordBack, RecordOwn, UndoApplies, UndoInside, UndoRuns, UndoBound, FirstPageRefusal, FirstRefusal, AcceptedExactly, Untouched, AcceptedBuild, Accepts, UndoKept, SameEntries, Back, BackNormal, Forth, NoBase, NoEdits}
+
+-- ---- reading back
+
+pub read-back : ReadBack
+read-back number es small r f =
+    record {
+      size = length-normalPage number es small (r .one) (r .sound) f;
+      bytes = allBelow-normalPage number es small (r .one) (r .sound) f;
+      accepted = pageRefusal-normalPage number es small (r .one) (r .sound) f (r .rises);
+      page-number = pageNumber-normalPage number es small (r .one) (r .sound) f;
+      all = entries-normalPage number es small (r .one) (r .sound) f;
+      each = λ i h. readEntry-normalPage number es small (r .one) (r .sound) f (r .rises) i noEntry h;
+      past = λ i h.
+          readEntry-outside (normalPage number es) i
+          (accepted-pageRefusal (normalPage number es) (pageRefusal-normalPage number es small (r .one) (r .sound) f (r .rises)))
+          (omega (arith, count-normalPage number es small (r .one) (r .sound) f));
+    }
+
+pub checked-back : CheckedBack
+checked-back number es small r f = checkPage-normalPage number es small (r .one) (r .sound) f (r .rises)
+
+-- ---- the choice and room
+
+module _ (es : List Entry) (r : Rising es) where
+  some-key : 1 ≤ length (keys es)
+  some-key = omega (arith, length-keys es, r .one)
+
+  rising-keys : Ascending (keys es)
+  rising-keys = ascending-keys es (r .sound) (r .rises)
+
+pub fewest : Fewest
+fewest es r m q p = choice-fewest (keys es) (some-key es r) (rising-keys es r) m q p
+
+pub tie : Tie
+tie ks z = (choice-best ks z .is, λ m l h. choice-last ks z m l h)
+
+pub permitted-choice : PermittedChoice
+permitted-choice ks z = (choice-permitted ks z, choice-bits ks z)
+
+pub room : Room
+room es r = fits-false es (r .one) (rising-keys es r)
+
+pub later-longer : LaterLonger
+later-longer es r m q i p h = permitted-longer (keys es) m q i (rising-keys es r) p h
+
+pub sum-formula : SumFormula
+sum-formula es r m q p = bitsUnder-sum (keys es) m q (rising-keys es r) p
+
+pub stored-from-whole : StoredFromWhole
+unfolding keys
+stored-from-whole e es r small m q p = storedFromWhole-stored (e .key) (keys es) (rising-keys (e ∷ es) r) small m q p
+
+pub whole-from-stored : WholeFromStored
+unfolding keys
+whole-from-stored e es r small n q z p = go n (z ∙ ap suc (sym (length-keys es))) p
+  where
+    go : (k : ℕ) → k ≡ suc (length (keys es)) → Permitted (keys (e ∷ es)) k q
+        → wholeFromStored q (sum (storedLengths k q (keys (e ∷ es)))) k (separatorLength (e .key))
+        ≡ Answer.Value (sum (map separatorLength (keys (e ∷ es))))
+    go k y =
+        subst (λ (j : ℕ). Permitted (keys (e ∷ es)) j q
+        → wholeFromStored q (sum (storedLengths j q (keys (e ∷ es)))) j (separatorLength (e .key))
+        ≡ Answer.Value (sum (map separatorLength (keys (e ∷ es))))) (sym y)
+        (λ x. wholeFromStored-stored (e .key) (keys es) (rising-keys (e ∷ es) r) small q x)
+
+-- ---- an accepted page
+
+pub base-fits : BaseFits
+base-fits p b ok =
+    let h : Held (entries p) = held-base p b ok in
+    (record { one = h .one; sound = h .sound; rises = h .rising }, h .fitting)
+
+pub base-bits : BaseBits
+base-bits p ok = entries-fewest p (accepted-pageRefusal p ok)
+
+-- ---- the edit record
+
+pub record-back : RecordBack
+record-back es w h = readRecord-recordOf es w h
+
+pub record-own : RecordOwn
+record-own r es b e =
+    let a : AcceptedRecord r es = readRecord-accepted r es b e in
+    (a .formed, a .count, a .bytes)
+
+-- ---- the undo record
+
+pub undo-applies : UndoApplies
+undo-applies base new b n = apply-undoEdits base new b n
+
+pub undo-inside : UndoInside
+undo-inside base new = anyOutside-undoEdits base new
+
+pub undo-runs : UndoRuns
+undo-runs base new before after s e t f q = undoEdits-apart base new before after s e t f q
+
+pub undo-bound : UndoBound
+undo-bound base rec number page undo v b e = build-undo-bound base rec number page undo v b e
+
+-- ---- refusals and lent memory
+
+pub first-page-refusal : FirstPageRefusal
+unfolding pageRefusal
+first-page-refusal p r = (λ e. first-holds (pageTests p) r e, λ f. firstHolds-first (pageTests p) (suc r) f)
+
+pub first-refusal : FirstRefusal
+first-refusal base rec number page undo r = (
+  λ e. build-refused base rec number page undo r e .first-test,
+  λ f. ap (λ (x : Built). x .answer) (build-firstHolds base rec number page undo r f) ∙ refused-answer r page undo,
+)
+
+pub accepted-exactly : AcceptedExactly
+accepted-exactly base rec number page undo = (accepts, answers)
+  where
+    accepts : (v : Numbers) × (build base rec number page undo .answer ≡ Answer.Value v) → NoneHolds (buildTests base rec page undo)
+    accepts x =
+        let found : (es : List Edit) × Acceptable base rec page undo es =
+        build-acceptable base rec number page undo (x .0) (x .1) in
+        noneHolds-buildTests base rec page undo (found .0) (found .1)
+
+    answers : NoneHolds (buildTests base rec page undo) → (v : Numbers) × (build base rec number page undo .answer ≡ Answer.Value v)
+    answers h =
+        let found : (es : List Edit) × Acceptable base rec page undo es = acceptable-buildTests base rec page undo h in (
+          _,
+          ap (λ (x : Built). x .answer) (build-accepts base rec number page undo (found .0) (found .1))
+              ∙ accepted-answer (entries base) (apply (entries base) (found .0)) number undo,
+        )
+
+pub untouched : Untouched
+untouched base rec number page undo r e =
+    let d : NotDone base rec page undo r (build base rec number page undo) = build-refused base rec number page undo r e in
+    (d .page-bytes, d .undo-bytes)
+
+pub accepted-build : AcceptedBuild
+accepted-build base rec number page undo v e =
+    let after : Built = build base rec number page undo in
+    let d : Done base rec number page undo v after = build-done base rec number page undo v e in
+    let found : Accepts base (d .new) number v after =
+    record {
+      n = ap (λ (x : Numbers). x .n) (d .numbers);
+      m = ap (λ (x : Numbers). x .m) (d .numbers);
+      q = ap (λ (x : Numbers). x .q) (d .numbers);
+      bits = ap (λ (x : Numbers). x .bits) (d .numbers);
+      undo = d .undo-size;
+      page = d .page-bytes;
+      record-bytes = d .undo-bytes;
+    } in
+    (d .es, d .acceptable .edits, subst (λ (new : List Entry). Accepts base new number v after) (d .new-entries) found)
+
+pub undo-kept : UndoKept
+undo-kept base rec number page undo v e = build-done base rec number page undo v e .undo-rest
+
+pub same-entries : SameEntries
+same-entries base other rec number page undo h g e = build-same-entries base other rec number page undo h g e
+
+-- ---- demand 3
+
+pub back : Back
+back base rec number page undo v o page₂ undo₂ l =
+    build-back base rec number page undo v (o .base-bytes) (o .record-bytes) (o .small) (o .base-accepted) (o .answered) page₂ undo₂ (l .size) (l .room)
+
+pub back-normal : BackNormal
+back-normal base rec number page undo v o page₂ undo₂ l =
+    build-back-normal base rec number page undo v (o .base-bytes) (o .record-bytes) (o .small) (o .base-accepted) (o .answered) page₂ undo₂ (l .size) (l .room)
+
+pub forth : Forth
+forth base rec number page undo v o page₂ undo₂ l w e page₃ undo₃ m =
+    build-forth base rec number page undo v (o .base-bytes) (o .record-bytes) (o .small) (o .base-accepted) (o .answered) page₂ undo₂ (l .size) (l .room) w e page₃ undo₃ (m .size) (m .room)
+
+-- ---- no base
+
+pub no-base : NoBase
+no-base rec number page undo v e = build-no-base rec number page undo v e
+
+pub no-edits : NoEdits
+no-edits p number page undo ok size = build-no-edits p number page undo ok size
