@@ -15,7 +15,7 @@ use borrow.Author.Tests.{eq-eqb, eqb-false, eqb-true, le-ltb, lt-ltb, ltb-false,
 use lib.Arith.{digits-lt}
 use lib.Dec.{eqb, ltb}
 use lib.ListN.{List·getD-eq-default, drop, getD, length, length-take, take}
-use lib.Seq.{getD-take, take-add, take-take}
+use lib.Seq.{getD-take, take-add, take-all, take-take}
 use Rattle.format.specs.Bits.{AllBelow, bitsOf, fill, value}
 use Rattle.format.specs.Key.{IsKey, below, lastSet, separatorLength, sharedBits, reach}
 use Rattle.format.proofs.BitsLaws.{allBelow-bitsOf, fill-unique, length-bitsOf, value-inj, value-lt}
@@ -147,6 +147,14 @@ below-value (x ∷ xs) (y ∷ ys) l hx hy t = go (eqb x y) refl t (below-value x
 pub below-value-key : (a b : List ℕ) → IsKey a → IsKey b → below a b ≡ true → value a < value b
 below-value-key a b ka kb t = below-value a b (ka .size ∙ sym (kb .size)) (ka .bits) (kb .bits) t
 
+pub value-below-key : (a b : List ℕ) → IsKey a → IsKey b → value a < value b → below a b ≡ true
+value-below-key a b ka kb l = go (below-trichotomy a b)
+  where
+    go : (below a b ≡ true) ⊎ ((a ≡ b) ⊎ (below b a ≡ true)) → below a b ≡ true
+    go (inl t) = t
+    go (inr (inl e)) = absurd (omega (arith, ap value e))
+    go (inr (inr t)) = absurd (omega (arith, below-value-key b a kb ka t))
+
 -- ---- shared bits
 
 module _ (x y : ℕ) (xs ys : List ℕ) where
@@ -221,6 +229,28 @@ sharedBits-largest (x ∷ xs) (y ∷ ys) (suc n) p q e =
     let t : take n xs ≡ take n ys = cc in
     rw (sharedBits-more x y xs ys h) (suc-le-suc (sharedBits-largest xs ys n (le-of-suc-le-suc p) (le-of-suc-le-suc q) t))
 
+-- they differ in the next bit
+pub sharedBits-differ : (a b : List ℕ) → sharedBits a b < length a → sharedBits a b < length b
+    → getD a (sharedBits a b) 0 ≡ getD b (sharedBits a b) 0 → ⊥
+unfolding sharedBits
+sharedBits-differ [] b p q e = not-suc-le-zero p
+sharedBits-differ (x ∷ xs) [] p q e = not-suc-le-zero q
+sharedBits-differ (x ∷ xs) (y ∷ ys) p q e = go (eqb x y) refl p q e (sharedBits-differ xs ys)
+  where
+    go : (t : Bool) → eqb x y ≡ t → sharedBits (x ∷ xs) (y ∷ ys) < suc (length xs) → sharedBits (x ∷ xs) (y ∷ ys) < suc (length ys)
+        → getD (x ∷ xs) (sharedBits (x ∷ xs) (y ∷ ys)) 0 ≡ getD (y ∷ ys) (sharedBits (x ∷ xs) (y ∷ ys)) 0
+        → (sharedBits xs ys < length xs → sharedBits xs ys < length ys → getD xs (sharedBits xs ys) 0 ≡ getD ys (sharedBits xs ys) 0 → ⊥) → ⊥
+    go true t p q e ih =
+        let m : sharedBits (x ∷ xs) (y ∷ ys) ≡ suc (sharedBits xs ys) = sharedBits-more x y xs ys (eqb-true x y t) in
+        ih (omega arith) (omega arith) (subst (λ (n : ℕ). getD (x ∷ xs) n 0 ≡ getD (y ∷ ys) n 0) m e)
+    go false t p q e ih =
+        let m : sharedBits (x ∷ xs) (y ∷ ys) ≡ 0 = sharedBits-stop x y xs ys (eqb-false x y t) in
+        eqb-false x y t (subst (λ (n : ℕ). getD (x ∷ xs) n 0 ≡ getD (y ∷ ys) n 0) m e)
+
+-- and where they share all there is they are equal
+pub sharedBits-all : (a b : List ℕ) → length a ≤ sharedBits a b → length b ≤ sharedBits a b → a ≡ b
+sharedBits-all a b p q = sym (take-all (sharedBits a b) a p) ∙ sharedBits-take a b ∙ take-all (sharedBits a b) b q
+
 sharedBits-heads : (x y z : ℕ) (xs ys zs : List ℕ) → (x < y) ⊎ ((x ≡ y) × (below xs ys ≡ true))
     → (y < z) ⊎ ((y ≡ z) × (below ys zs ≡ true))
     → (below xs ys ≡ true → below ys zs ≡ true → sharedBits xs zs ≡ min (sharedBits xs ys) (sharedBits ys zs))
@@ -284,6 +314,21 @@ lastSet-least (x ∷ xs) (suc m) b f = go (lastSet xs) (lastSet-least xs m (b .1
     go zero l h = omega arith
     go (suc n) l h = suc-le-suc l
 
+-- the bit that it counts to is set
+pub lastSet-last : (k : List ℕ) (n : ℕ) → AllBelow 2 k → lastSet k ≡ suc n → getD k n 0 ≡ 1
+unfolding lastSet reach AllBelow
+lastSet-last [] n w e = absurd (omega arith)
+lastSet-last (b ∷ bs) n w e = go (lastSet bs) refl e (λ m. lastSet-last bs m (w .1))
+  where
+    go : (m : ℕ) → lastSet bs ≡ m → reach b m ≡ suc n → ((j : ℕ) → lastSet bs ≡ suc j → getD bs j 0 ≡ 1) → getD (b ∷ bs) n 0 ≡ 1
+    go zero q e ih =
+        let z : n ≡ 0 = omega (arith, w .0) in
+        let o : b ≡ 1 = omega (arith, w .0) in
+        rw z o
+    go (suc m) q e ih =
+        let z : n ≡ suc m = omega arith in
+        rw z (ih m q)
+
 pub lastSet-bound : (k : List ℕ) → AllBelow 2 k → lastSet k ≤ length k
 lastSet-bound k b = lastSet-least k (length k) b (λ i h. List·getD-eq-default k 0 {n = i} h)
 
@@ -345,6 +390,17 @@ pub separatorLength-past : (a b : List ℕ) → length a ≡ length b → below 
 separatorLength-past a b e t = omega (arith, lastSet-past a b e t, lastSet-separatorLength b)
 
 -- that many bits or more, and zeros, are the key
+-- the bit before it is set, but for a length of 1
+pub separatorLength-last : (k : List ℕ) → AllBelow 2 k → (separatorLength k ≡ 1) ⊎ (getD k (separatorLength k - 1) 0 ≡ 1)
+unfolding separatorLength
+separatorLength-last k w = go (lastSet k) refl
+  where
+    go : (n : ℕ) → lastSet k ≡ n → (separatorLength k ≡ 1) ⊎ (getD k (separatorLength k - 1) 0 ≡ 1)
+    go zero e = inl (omega arith)
+    go (suc n) e =
+        let z : separatorLength k - 1 ≡ n = omega arith in
+        inr (rw z (lastSet-last k n w e))
+
 pub fill-take-key : (k : List ℕ) (n : ℕ) → IsKey k → separatorLength k ≤ n → fill 256 (take n k) ≡ k
 fill-take-key k n y h =
     subst (λ (w : ℕ). fill w (take n k) ≡ k) (y .size) (fill-lastSet n k (omega (arith, lastSet-separatorLength k)))

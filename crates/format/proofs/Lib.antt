@@ -2,6 +2,7 @@
 pub mod AnswerLaws
 pub mod BitsLaws
 pub mod KeyLaws
+pub mod RangesLaws
 pub mod EntryLaws
 pub mod StoredLaws
 pub mod ChoiceLaws

@@ -48,7 +48,7 @@ inserts (e ∷ es) = Insert (e .key) (e .pointer) ∷ inserts es
 -- 108 entries, all of length 256 but the last, of this length: they take 4,086 body bytes where it is 238.
 unfoldable pub full : ℕ → List Entry
 unfolding each long
-full len = each 107 (λ i. record { key = long i 256; pointer = i }) ++ record { key = long 107 len; pointer = 107 } ∷ []
+full len = each 107 (λ i. record { key = long i 256; pointer = 5 }) ++ record { key = long 107 len; pointer = 5 } ∷ []
 
 -- A page of n, m, q, end offsets, these bits' bytes, and so many zeros.
 unfoldable pub blank : ℕ → ℕ → ℕ → List ℕ → List ℕ → ℕ → List ℕ
@@ -57,5 +57,4 @@ blank n m q ends body rest = le 4 7 ++ le 2 n ++ le 2 m ++ le 2 q ++ words 2 end
 
 -- A build over the two entries, with this record, onto page 8 of size bytes, with room bytes for the undo record.
 abbrev pub built : List ℕ → ℕ → ℕ → Built
-unfolding build normalPage two
 built rec size room = build (normalPage 7 two) rec 8 (zeros size) (zeros room)

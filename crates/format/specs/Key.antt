@@ -23,7 +23,6 @@ below (x ∷ xs) (y ∷ ys) = cond (eqb x y) (below xs ys) (ltb x y)
 
 -- Two keys are equal: they spell the same number.
 abbrev pub sameKey : List ℕ → List ℕ → Bool
-unfolding value
 sameKey a b = eqb (value a) (value b)
 
 -- How far a bit b and those behind it reach, where those reach as far as their n-th: where none of them is set, as far as b itself.

@@ -72,7 +72,6 @@ startOf p (suc i) = endOf p i
 
 -- The last end offset; 0 where there is none.
 abbrev pub lastEnd : List ℕ → ℕ
-unfolding startOf count
 lastEnd p = startOf p (count p)
 
 -- How many bits separator i has; 0 where it ends before it starts.

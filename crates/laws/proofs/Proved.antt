@@ -1,32 +1,86 @@
--- Each promise of `specs/Theorems.antt` is kept: by the laws of `format`.
+-- Each promise of `specs/Words.antt` and `specs/Theorems.antt` is kept: by the laws of `format`, and `BackLaws`.
 -- In order: as the statements stand.
--- Not here: the laws (`Rattle.format.proofs`); that the hypotheses can be met (`Instances`).
+-- Not here: that the hypotheses can be met (`Instances`).
 -- Assumes nothing.
-use mathlib.Core.List.{List, _∷_, map}
+use mathlib.Core.Bool.{true}
+use mathlib.Core.List.{List, [], _∷_, _++_, map}
 use mathlib.Core.Path.{_≡_, sym, ap, subst, _∙_}
 use Prim.Native.Nat.{ℕ, suc, _≤_}
 use native.Mathlib.Omega.{arith}
+use borrow.Author.Tests.{eq-eqb, eqb-true}
+use lib.Dec.{leb}
 use lib.ListN.{length}
-use Rattle.format.specs.Key.{separatorLength}
-use Rattle.format.specs.Answer.{Answer, NoneHolds}
-use Rattle.format.specs.Page.{Entry, entries, pageTests, pageRefusal}
+use Rattle.format.specs.Bits.{value}
+use Rattle.format.specs.Key.{below, separator, separatorLength}
+use Rattle.format.specs.Answer.{Answer, NoneHolds, Test, refuse}
+use Rattle.format.specs.Page.{Entry, count, entries, entryOf, pageTests, pageRefusal, readEntry}
 use Rattle.format.specs.Sizes.{wholeFromStored}
+use Rattle.format.specs.Ranges.{bitsCopied, inside}
 use Rattle.format.specs.Normal.{sum, Permitted, storedLengths, keys, normalPage}
-use Rattle.format.specs.Edit.{Edit, noEntry, apply}
+use Rattle.format.specs.Edit.{Edit, noEntry, apply, ascending}
+use Rattle.format.specs.Undo.{undoEdits}
 use Rattle.format.specs.Build.{Numbers, Built, buildTests, build}
-use Rattle.format.proofs.AnswerLaws.{first-holds, firstHolds-first}
+use Rattle.format.proofs.AnswerLaws.{Numbered, first-holds, firstHolds-first, numbered-append, unless-firstHolds, unless-refused}
+use Rattle.format.proofs.KeyLaws.{below-value-key, separatorLength-bound, separatorLength-last, separatorLength-positive, separatorLength-zero, sharedBits-all, sharedBits-bound, sharedBits-differ, sharedBits-take, value-below-key, value-inj-key}
+use Rattle.format.proofs.RangesLaws.{allBelow-bitsCopied, below-separator, bitCopy-value, bitsCopied-before, bitsCopied-behind, bitsCopied-inner, isKey-separator, length-bitsCopied, separate-value, separator-not-above}
 use Rattle.format.proofs.EntryLaws.{Ascending, ascending-keys, length-keys}
 use Rattle.format.proofs.ChoiceLaws.{permitted-longer, bitsUnder-sum, choice-best, choice-permitted, choice-bits, choice-last, choice-fewest, fits-false}
 use Rattle.format.proofs.SizesLaws.{storedFromWhole-stored, wholeFromStored-stored}
-use Rattle.format.proofs.AcceptedLaws.{accepted-pageRefusal, readEntry-outside, entries-fewest}
+use Rattle.format.proofs.AcceptedLaws.{accepted-pageRefusal, readEntry-outside, entries-fewest, numbered-pageTests}
 use Rattle.format.proofs.NormalLaws.{length-normalPage, allBelow-normalPage, pageNumber-normalPage, count-normalPage, entries-normalPage, pageRefusal-normalPage, checkPage-normalPage, readEntry-normalPage}
 use Rattle.format.proofs.RecordLaws.{AcceptedRecord, readRecord-recordOf, readRecord-accepted}
-use Rattle.format.proofs.UndoLaws.{apply-undoEdits, anyOutside-undoEdits, undoEdits-apart}
+use Rattle.format.proofs.UndoLaws.{apply-undoEdits, anyOutside-undoEdits, length-undoEdits, undoEdits-apart, undoEdits-some}
 use Rattle.format.proofs.BuildLaws.{Acceptable, Done, NotDone, noneHolds-buildTests, acceptable-buildTests, build-accepts, build-acceptable, accepted-answer, build-done, build-refused, build-firstHolds, build-same-entries, build-no-edits, refused-answer}
 use Rattle.laws.proofs.BackLaws.{Held, held-base, build-back, build-back-normal, build-forth, build-undo-bound, build-no-base}
-use Rattle.laws.specs.Theorems.{Rising, ReadBack, CheckedBack, Fewest, Tie, PermittedChoice, Room, LaterLonger, SumFormula, StoredFromWhole, WholeFromStored, BaseFits, BaseBits, RecordBack, RecordOwn, UndoApplies, UndoInside, UndoRuns, UndoBound, FirstPageRefusal, FirstRefusal, AcceptedExactly, Untouched, AcceptedBuild, Accepts, UndoKept, SameEntries, Back, BackNormal, Forth, NoBase, NoEdits}
+use Rattle.laws.specs.Words.{OrderWords, LengthWords, SharedWords, SeparateWords, Between, CopyWords, CopiedFrom}
+use Rattle.laws.specs.Theorems.{Rising, ReadBack, CheckedBack, Fewest, Tie, PermittedChoice, Room, LaterLonger, SumFormula, StoredFromWhole, WholeFromStored, BaseFits, BaseBits, RecordBack, RecordOwn, UndoApplies, UndoInside, UndoCount, UndoRuns, UndoBound, FirstPageRefusal, FirstEntryRefusal, FirstRefusal, AcceptedExactly, Untouched, AcceptedBuild, Accepts, UndoKept, SameEntries, Back, BackNormal, Forth, NoBase, NoEdits}
 
--- ---- reading back
+-- ---- Words
+
+pub order-words : OrderWords
+order-words a b ka kb = (
+  (λ t. below-value-key a b ka kb t, λ l. value-below-key a b ka kb l),
+  (λ e. value-inj-key a b ka kb (eqb-true (value a) (value b) e), λ e. eq-eqb (value a) (value b) (ap value e)),
+)
+
+pub length-words : LengthWords
+length-words k y =
+    record {
+      low = separatorLength-positive k;
+      high = separatorLength-bound k y;
+      zeros = separatorLength-zero k;
+      last = separatorLength-last k (y .bits);
+    }
+
+pub shared-words : SharedWords
+shared-words a b ka kb =
+    record {
+      high = omega (arith, sharedBits-bound a b, ka .size);
+      agree = sharedBits-take a b;
+      differ = λ h. sharedBits-differ a b (omega (arith, ka .size)) (omega (arith, kb .size));
+      equal = λ e. sharedBits-all a b (omega (arith, ka .size)) (omega (arith, kb .size));
+    }
+
+pub separate-words : SeparateWords
+separate-words a b c ka kb e =
+    let v : (below a b ≡ true) × (c ≡ separator a b) = separate-value a b c e in
+    subst (λ (k : List ℕ). Between a b k) (sym (v .1))
+    (record { is-key = isKey-separator a b ka kb; above = below-separator a b ka kb (v .0); not-above = separator-not-above a b ka kb })
+
+pub copy-words : CopyWords
+copy-words dst to src from len after e =
+    let v : (inside (length dst) to len ≡ true) × (inside (length src) from len ≡ true) × (after ≡ bitsCopied dst to src from len) =
+    bitCopy-value dst to src from len after e in
+    subst (λ (l : List ℕ). CopiedFrom dst to src from len l) (sym (v .2))
+    (record {
+      size = length-bitsCopied dst to src from len;
+      bytes = allBelow-bitsCopied dst to src from len;
+      inner = bitsCopied-inner dst to src from len (v .0) (v .1);
+      before = bitsCopied-before dst to src from len (v .0) (v .1);
+      behind = bitsCopied-behind dst to src from len (v .0) (v .1);
+    })
+
+-- ---- 1. Reading back
 
 pub read-back : ReadBack
 read-back number es small r f =
@@ -46,7 +100,7 @@ read-back number es small r f =
 pub checked-back : CheckedBack
 checked-back number es small r f = checkPage-normalPage number es small (r .one) (r .sound) f (r .rises)
 
--- ---- the choice and room
+-- ---- 2, 3 and 4. The choice, room, lengths
 
 module _ (es : List Entry) (r : Rising es) where
   some-key : 1 ≤ length (keys es)
@@ -59,7 +113,7 @@ pub fewest : Fewest
 fewest es r m q p = choice-fewest (keys es) (some-key es r) (rising-keys es r) m q p
 
 pub tie : Tie
-tie ks z = (choice-best ks z .is, λ m l h. choice-last ks z m l h)
+tie ks z = (choice-best ks z .is, choice-best ks z .fewest, λ m l h. choice-last ks z m l h)
 
 pub permitted-choice : PermittedChoice
 permitted-choice ks z = (choice-permitted ks z, choice-bits ks z)
@@ -90,7 +144,7 @@ whole-from-stored e es r small n q z p = go n (z ∙ ap suc (sym (length-keys es
         ≡ Answer.Value (sum (map separatorLength (keys (e ∷ es))))) (sym y)
         (λ x. wholeFromStored-stored (e .key) (keys es) (rising-keys (e ∷ es) r) small q x)
 
--- ---- an accepted page
+-- ---- 5. An accepted page
 
 pub base-fits : BaseFits
 base-fits p b ok =
@@ -100,7 +154,7 @@ base-fits p b ok =
 pub base-bits : BaseBits
 base-bits p ok = entries-fewest p (accepted-pageRefusal p ok)
 
--- ---- the edit record
+-- ---- 6. The edit record
 
 pub record-back : RecordBack
 record-back es w h = readRecord-recordOf es w h
@@ -110,25 +164,56 @@ record-own r es b e =
     let a : AcceptedRecord r es = readRecord-accepted r es b e in
     (a .formed, a .count, a .bytes)
 
--- ---- the undo record
+-- ---- 7. The undo record
 
 pub undo-applies : UndoApplies
-undo-applies base new b n = apply-undoEdits base new b n
+undo-applies base new b n =
+    let e : apply new (undoEdits base new) ≡ base = apply-undoEdits base new (b .sound) n in
+    (e, ap ascending e ∙ b .rises)
 
 pub undo-inside : UndoInside
 undo-inside base new = anyOutside-undoEdits base new
 
-pub undo-runs : UndoRuns
-undo-runs base new before after s e t f q = undoEdits-apart base new before after s e t f q
+pub undo-count : UndoCount
+undo-count base new h = (undoEdits-some base new h, length-undoEdits base new)
 
 pub undo-bound : UndoBound
 undo-bound base rec number page undo v b e = build-undo-bound base rec number page undo v b e
 
--- ---- refusals and lent memory
+pub undo-runs : UndoRuns
+undo-runs base new before after s e t f q = undoEdits-apart base new before after s e t f q
+
+-- ---- 8. Demand 3
+
+pub back : Back
+back base rec number page undo v o page₂ undo₂ l =
+    build-back base rec number page undo v (o .base-bytes) (o .record-bytes) (o .small) (o .base-accepted) (o .answered) page₂ undo₂ (l .size) (l .room)
+
+pub back-normal : BackNormal
+back-normal base rec number page undo v o page₂ undo₂ l =
+    build-back-normal base rec number page undo v (o .base-bytes) (o .record-bytes) (o .small) (o .base-accepted) (o .answered) page₂ undo₂ (l .size) (l .room)
+
+pub forth : Forth
+forth base rec number page undo v o page₂ undo₂ l w e page₃ undo₃ m =
+    build-forth base rec number page undo v (o .base-bytes) (o .record-bytes) (o .small) (o .base-accepted) (o .answered) page₂ undo₂ (l .size) (l .room) w e page₃ undo₃ (m .size) (m .room)
+
+-- ---- 9. What a build depends on
+
+pub same-entries : SameEntries
+same-entries base other rec number page undo h g e = build-same-entries base other rec number page undo h g e
+
+-- ---- 10. Refusals and lent memory
 
 pub first-page-refusal : FirstPageRefusal
 unfolding pageRefusal
 first-page-refusal p r = (λ e. first-holds (pageTests p) r e, λ f. firstHolds-first (pageTests p) (suc r) f)
+
+pub first-entry-refusal : FirstEntryRefusal
+unfolding readEntry
+first-entry-refusal p i r =
+    let last : List Test = refuse 16 (leb (count p) i) ∷ [] in
+    let numbered : Numbered (pageTests p ++ last) = numbered-append (pageTests p) last (numbered-pageTests p) (omega arith, tt) in
+    (λ e. unless-refused (pageTests p ++ last) (entryOf p i) r e, λ f. unless-firstHolds (pageTests p ++ last) (entryOf p i) r numbered f)
 
 pub first-refusal : FirstRefusal
 first-refusal base rec number page undo r = (
@@ -177,24 +262,7 @@ accepted-build base rec number page undo v e =
 pub undo-kept : UndoKept
 undo-kept base rec number page undo v e = build-done base rec number page undo v e .undo-rest
 
-pub same-entries : SameEntries
-same-entries base other rec number page undo h g e = build-same-entries base other rec number page undo h g e
-
--- ---- demand 3
-
-pub back : Back
-back base rec number page undo v o page₂ undo₂ l =
-    build-back base rec number page undo v (o .base-bytes) (o .record-bytes) (o .small) (o .base-accepted) (o .answered) page₂ undo₂ (l .size) (l .room)
-
-pub back-normal : BackNormal
-back-normal base rec number page undo v o page₂ undo₂ l =
-    build-back-normal base rec number page undo v (o .base-bytes) (o .record-bytes) (o .small) (o .base-accepted) (o .answered) page₂ undo₂ (l .size) (l .room)
-
-pub forth : Forth
-forth base rec number page undo v o page₂ undo₂ l w e page₃ undo₃ m =
-    build-forth base rec number page undo v (o .base-bytes) (o .record-bytes) (o .small) (o .base-accepted) (o .answered) page₂ undo₂ (l .size) (l .room) w e page₃ undo₃ (m .size) (m .room)
-
--- ---- no base
+-- ---- 11. No base
 
 pub no-base : NoBase
 no-base rec number page undo v e = build-no-base rec number page undo v e

@@ -1,5 +1,15 @@
--- What is promised of the definitions of `format`, each promise a named type; `proofs/Proved.antt` has a term of each.
--- In order: reading back; the choice and room; an accepted page; the edit record; the undo record; refusals and lent memory; demand 3; no base.
+-- What is promised of the definitions of `format`, numbered as in docs/STATEMENTS.md; `proofs/Proved.antt` has a term of each.
+--      1  ReadBack CheckedBack                          a normal page reads back
+--      2  Fewest Tie PermittedChoice                    the choice of m and q
+--      3  Room                                          when there is none
+--      4  LaterLonger SumFormula StoredFromWhole WholeFromStored    lengths below the prefix, and sums
+--      5  BaseFits BaseBits                             what an accepted page holds
+--      6  RecordBack RecordOwn                          edit records
+--      7  UndoApplies UndoInside UndoCount UndoBound UndoRuns       undo records
+--      8  Back BackNormal Forth                         demand 3
+--      9  SameEntries                                   what a build depends on
+--     10  FirstPageRefusal FirstEntryRefusal FirstRefusal AcceptedExactly Untouched AcceptedBuild UndoKept    refusals and lent memory
+--     11  NoBase NoEdits                                no base
 -- Assumes nothing.
 use mathlib.Core.Bool.{true, false}
 use mathlib.Core.List.{List, [], _∷_, _++_, map}
@@ -7,10 +17,11 @@ use mathlib.Core.Logic.{_↔_, _≢_, _⊎_}
 use mathlib.Core.Option.{some}
 use mathlib.Core.Path.{_≡_}
 use Prim.Native.Nat.{ℕ, suc, _+_, _*_, _^_, _≤_, _<_, min}
+use lib.Dec.{leb}
 use lib.ListN.{length, take, drop, getD}
 use Rattle.format.specs.Bits.{AllBelow}
 use Rattle.format.specs.Key.{separatorLength}
-use Rattle.format.specs.Answer.{Answer, NoneHolds, FirstHolds}
+use Rattle.format.specs.Answer.{Answer, refuse, NoneHolds, FirstHolds}
 use Rattle.format.specs.Page.{Entry, Sound, pageNumber, count, prefixLength, startOf, entries, bodyBytes, pageTests, pageRefusal, checkPage, readEntry}
 use Rattle.format.specs.Sizes.{wholeFromStored, storedFromWhole}
 use Rattle.format.specs.Normal.{sum, Permitted, storedLengths, bitsUnder, candidate, choice, keys, normalPage, fits}
@@ -19,7 +30,7 @@ use Rattle.format.specs.Edit.Edit.{Keep}
 use Rattle.format.specs.Undo.{undoEdits, undoRecord}
 use Rattle.format.specs.Build.{Numbers, Built, buildTests, refused, build}
 
--- ---- reading back
+-- ---- 1. Reading back
 
 -- At least one entry, keys of 256 bits and pointers of 32, in strictly ascending order.
 pub record Rising (es : List Entry) : Type 0 where
@@ -47,16 +58,17 @@ CheckedBack = (number : ℕ) (es : List Entry) → number < 2 ^ 32 → Rising es
     → checkPage (normalPage number es)
     ≡ Answer.Value (record { number = number; n = length es; m = choice (keys es) .m; q = choice (keys es) .q; bits = choice (keys es) .bits })
 
--- ---- the choice and room
+-- ---- 2. The choice
 
 -- No permitted choice has fewer bits than the normal page's.
 abbrev pub Fewest : Type 0
 Fewest = (es : List Entry) → Rising es → (m q : ℕ) → Permitted (keys es) m q → choice (keys es) .bits ≤ bitsUnder (keys es) m q
 
--- The choice is a candidate, and every candidate with a larger m has more bits: ties go to the largest m.
+-- The choice is a candidate, no candidate has fewer bits, and each with a larger m has more: ties go to the largest m.
 abbrev pub Tie : Type 0
 Tie = (ks : List (List ℕ)) → 1 ≤ length ks
     → (choice ks ≡ candidate ks (choice ks .m))
+    × ((m : ℕ) → 1 ≤ m → m ≤ length ks → choice ks .bits ≤ candidate ks m .bits)
     × ((m : ℕ) → choice ks .m < m → m ≤ length ks → choice ks .bits < candidate ks m .bits)
 
 -- The choice is permitted, and has the bits that it says.
@@ -64,10 +76,14 @@ abbrev pub PermittedChoice : Type 0
 PermittedChoice = (ks : List (List ℕ)) → 1 ≤ length ks
     → Permitted ks (choice ks .m) (choice ks .q) × (choice ks .bits ≡ bitsUnder ks (choice ks .m) (choice ks .q))
 
+-- ---- 3. Room
+
 -- Entries do not fit exactly where no permitted choice has body bytes of at most 4,086.
 abbrev pub Room : Type 0
 Room = (es : List Entry) → Rising es
     → (fits es ≡ false) ↔ ((m q : ℕ) → Permitted (keys es) m q → 4086 < bodyBytes (length es) q (sum (storedLengths m q (keys es))))
+
+-- ---- 4. Lengths below the prefix, and sums
 
 -- Each key but the first that leaves out q bits has more than q.
 abbrev pub LaterLonger : Type 0
@@ -91,7 +107,7 @@ WholeFromStored = (e : Entry) (es : List Entry) → Rising (e ∷ es) → sum (m
     → (n q : ℕ) → n ≡ length (e ∷ es) → Permitted (keys (e ∷ es)) n q
     → wholeFromStored q (sum (storedLengths n q (keys (e ∷ es)))) n (separatorLength (e .key)) ≡ Answer.Value (sum (map separatorLength (keys (e ∷ es))))
 
--- ---- an accepted page
+-- ---- 5. An accepted page
 
 -- The entries of an accepted page are strictly ascending and fit a normal page.
 abbrev pub BaseFits : Type 0
@@ -101,7 +117,7 @@ BaseFits = (p : List ℕ) → AllBelow 256 p → pageRefusal p ≡ 0 → Rising 
 abbrev pub BaseBits : Type 0
 BaseBits = (p : List ℕ) → pageRefusal p ≡ 0 → choice (keys (entries p)) .bits ≤ prefixLength p + startOf p (count p)
 
--- ---- the edit record
+-- ---- 6. The edit record
 
 -- A record of edits is read back as those edits.
 abbrev pub RecordBack : Type 0
@@ -112,74 +128,32 @@ abbrev pub RecordOwn : Type 0
 RecordOwn = (r : List ℕ) (es : List Edit) → AllBelow 256 r → readRecord r ≡ some es
     → AllWellFormed es × (length es ≤ 1023) × (recordOf es ≡ r)
 
--- ---- the undo record
+-- ---- 7. The undo record
 
--- Undo makes the base's entries out of the new page's.
+-- Undo makes the base's entries out of the new page's; so their keys ascend.
 abbrev pub UndoApplies : Type 0
-UndoApplies = (base new : List Entry) → Sound base → Sound new → apply new (undoEdits base new) ≡ base
+UndoApplies = (base new : List Entry) → Rising base → Sound new
+    → (apply new (undoEdits base new) ≡ base) × (ascending (apply new (undoEdits base new)) ≡ true)
 
 -- Undo names no position that the new page does not have.
 abbrev pub UndoInside : Type 0
 UndoInside = (base new : List Entry) → anyOutside (length new) (undoEdits base new) ≡ false
 
--- Kept entries are joined into the longest runs: no Keep is followed by one that starts where it ends.
-abbrev pub UndoRuns : Type 0
-UndoRuns = (base new : List Entry) (before after : List Edit) (s e t f : ℕ)
-    → undoEdits base new ≡ before ++ (Keep s e ∷ Keep t f ∷ after) → e ≢ t
+-- Undo has an edit, and no more edits than the base has entries.
+abbrev pub UndoCount : Type 0
+UndoCount = (base new : List Entry) → 1 ≤ length base → (1 ≤ length (undoEdits base new)) × (length (undoEdits base new) ≤ length base)
 
 -- No undo record exceeds 24,688 bytes.
 abbrev pub UndoBound : Type 0
 UndoBound = (base rec : List ℕ) (number : ℕ) (page undo : List ℕ) (v : Numbers) → AllBelow 256 base
     → build base rec number page undo .answer ≡ Answer.Value v → v .undo ≤ 24688
 
--- ---- refusals and lent memory
+-- Kept entries are joined into the longest runs: no Keep is followed by one that starts where it ends.
+abbrev pub UndoRuns : Type 0
+UndoRuns = (base new : List Entry) (before after : List Edit) (s e t f : ℕ)
+    → undoEdits base new ≡ before ++ (Keep s e ∷ Keep t f ∷ after) → e ≢ t
 
--- A page's refusal is the first of 1 to 8 whose condition holds.
-abbrev pub FirstPageRefusal : Type 0
-FirstPageRefusal = (p : List ℕ) (r : ℕ) → (pageRefusal p ≡ suc r) ↔ FirstHolds (pageTests p) (suc r)
-
--- A build is refused with r exactly where r is the first of 1 to 15 whose condition holds.
-abbrev pub FirstRefusal : Type 0
-FirstRefusal = (base rec : List ℕ) (number : ℕ) (page undo : List ℕ) (r : ℕ)
-    → (build base rec number page undo .answer ≡ Answer.Refused r) ↔ FirstHolds (buildTests base rec page undo) r
-
--- A build is accepted exactly where none of 1 to 15 holds.
-abbrev pub AcceptedExactly : Type 0
-AcceptedExactly = (base rec : List ℕ) (number : ℕ) (page undo : List ℕ)
-    → ((v : Numbers) × (build base rec number page undo .answer ≡ Answer.Value v)) ↔ NoneHolds (buildTests base rec page undo)
-
--- A refusal leaves lent memory unchanged.
-abbrev pub Untouched : Type 0
-Untouched = (base rec : List ℕ) (number : ℕ) (page undo : List ℕ) (r : ℕ) → build base rec number page undo .answer ≡ Answer.Refused r
-    → (build base rec number page undo .page ≡ page) × (build base rec number page undo .undo ≡ undo)
-
--- An accepted build over new entries: its numbers are theirs, the page is their normal page, and the undo buffer begins with the undo record.
-pub record Accepts (base : List ℕ) (new : List Entry) (number : ℕ) (v : Numbers) (after : Built) : Type 0 where
-  pub n : v .n ≡ length new
-  pub m : v .m ≡ choice (keys new) .m
-  pub q : v .q ≡ choice (keys new) .q
-  pub bits : v .bits ≡ choice (keys new) .bits
-  pub undo : v .undo ≡ length (undoRecord (entries base) new)
-  pub page : after .page ≡ normalPage number new
-  pub record-bytes : take (v .undo) (after .undo) ≡ undoRecord (entries base) new
-
--- An accepted build answers and leaves what belongs to the entries that its edits make.
-abbrev pub AcceptedBuild : Type 0
-AcceptedBuild = (base rec : List ℕ) (number : ℕ) (page undo : List ℕ) (v : Numbers) → build base rec number page undo .answer ≡ Answer.Value v
-    → (es : List Edit) × (readRecord rec ≡ some es) × Accepts base (apply (entries base) es) number v (build base rec number page undo)
-
--- Bytes of the undo buffer past the undo record keep their content.
-abbrev pub UndoKept : Type 0
-UndoKept = (base rec : List ℕ) (number : ℕ) (page undo : List ℕ) (v : Numbers) → build base rec number page undo .answer ≡ Answer.Value v
-    → drop (v .undo) (build base rec number page undo .undo) ≡ drop (v .undo) undo
-
--- Two accepted bases with the same entries give the same answer, new page and undo bytes.
-abbrev pub SameEntries : Type 0
-SameEntries = (base other rec : List ℕ) (number : ℕ) (page undo : List ℕ)
-    → (base ≡ []) ⊎ (pageRefusal base ≡ 0) → (other ≡ []) ⊎ (pageRefusal other ≡ 0)
-    → entries base ≡ entries other → build base rec number page undo ≡ build other rec number page undo
-
--- ---- demand 3
+-- ---- 8. Demand 3
 
 -- An accepted build over an accepted base of bytes.
 pub record Once (base rec : List ℕ) (number : ℕ) (page undo : List ℕ) (v : Numbers) : Type 0 where
@@ -224,7 +198,60 @@ Forth = (base rec : List ℕ) (number : ℕ) (page undo : List ℕ) (v : Numbers
     → (page₃ undo₃ : List ℕ) → Lent page₃ undo₃
     → Gives (again (again (build base rec number page undo) v (pageNumber base) page₂ undo₂) w number page₃ undo₃) (build base rec number page undo .page)
 
--- ---- no base
+-- ---- 9. What a build depends on
+
+-- Two accepted bases with the same entries give the same answer, new page and undo bytes.
+abbrev pub SameEntries : Type 0
+SameEntries = (base other rec : List ℕ) (number : ℕ) (page undo : List ℕ)
+    → (base ≡ []) ⊎ (pageRefusal base ≡ 0) → (other ≡ []) ⊎ (pageRefusal other ≡ 0)
+    → entries base ≡ entries other → build base rec number page undo ≡ build other rec number page undo
+
+-- ---- 10. Refusals and lent memory
+
+-- A page's refusal is the first of 1 to 8 whose condition holds.
+abbrev pub FirstPageRefusal : Type 0
+FirstPageRefusal = (p : List ℕ) (r : ℕ) → (pageRefusal p ≡ suc r) ↔ FirstHolds (pageTests p) (suc r)
+
+-- Entry reading is refused with r exactly where r is the first of 1 to 8 and 16 whose condition holds.
+abbrev pub FirstEntryRefusal : Type 0
+FirstEntryRefusal = (p : List ℕ) (i r : ℕ) → (readEntry p i ≡ Answer.Refused r) ↔ FirstHolds (pageTests p ++ refuse 16 (leb (count p) i) ∷ []) r
+
+-- A build is refused with r exactly where r is the first of 1 to 15 whose condition holds.
+abbrev pub FirstRefusal : Type 0
+FirstRefusal = (base rec : List ℕ) (number : ℕ) (page undo : List ℕ) (r : ℕ)
+    → (build base rec number page undo .answer ≡ Answer.Refused r) ↔ FirstHolds (buildTests base rec page undo) r
+
+-- A build is accepted exactly where none of 1 to 15 holds.
+abbrev pub AcceptedExactly : Type 0
+AcceptedExactly = (base rec : List ℕ) (number : ℕ) (page undo : List ℕ)
+    → ((v : Numbers) × (build base rec number page undo .answer ≡ Answer.Value v)) ↔ NoneHolds (buildTests base rec page undo)
+
+-- A refusal leaves lent memory unchanged.
+abbrev pub Untouched : Type 0
+Untouched = (base rec : List ℕ) (number : ℕ) (page undo : List ℕ) (r : ℕ) → build base rec number page undo .answer ≡ Answer.Refused r
+    → (build base rec number page undo .page ≡ page) × (build base rec number page undo .undo ≡ undo)
+
+-- An accepted build over new entries: its numbers are theirs, the page is their normal page, and the undo buffer begins with the undo record.
+pub record Accepts (base : List ℕ) (new : List Entry) (number : ℕ) (v : Numbers) (after : Built) : Type 0 where
+  pub n : v .n ≡ length new
+  pub m : v .m ≡ choice (keys new) .m
+  pub q : v .q ≡ choice (keys new) .q
+  pub bits : v .bits ≡ choice (keys new) .bits
+  pub undo : v .undo ≡ length (undoRecord (entries base) new)
+  pub page : after .page ≡ normalPage number new
+  pub record-bytes : take (v .undo) (after .undo) ≡ undoRecord (entries base) new
+
+-- An accepted build answers and leaves what belongs to the entries that its edits make.
+abbrev pub AcceptedBuild : Type 0
+AcceptedBuild = (base rec : List ℕ) (number : ℕ) (page undo : List ℕ) (v : Numbers) → build base rec number page undo .answer ≡ Answer.Value v
+    → (es : List Edit) × (readRecord rec ≡ some es) × Accepts base (apply (entries base) es) number v (build base rec number page undo)
+
+-- Bytes of the undo buffer past the undo record keep their content.
+abbrev pub UndoKept : Type 0
+UndoKept = (base rec : List ℕ) (number : ℕ) (page undo : List ℕ) (v : Numbers) → build base rec number page undo .answer ≡ Answer.Value v
+    → drop (v .undo) (build base rec number page undo .undo) ≡ drop (v .undo) undo
+
+-- ---- 11. No base
 
 -- With no base the undo record is 00 00.
 abbrev pub NoBase : Type 0
