@@ -1,4 +1,5 @@
--- Pages on their limits, by computation: 108 entries with 4,086 body bytes and with 4,087, checked and built; 681 entries.
+-- Pages on their limits, by computation: 108 entries with 4,086 body bytes and with 4,087, checked and built; 681
+-- entries.
 -- Assumes nothing.
 use mathlib.Core.List.{[]}
 use mathlib.Core.Path.{_≡_, refl}

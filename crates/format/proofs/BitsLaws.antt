@@ -1,6 +1,6 @@
 -- Laws of bits, bytes and little-endian numbers (`specs/Bits.antt`).
--- In order: `AllBelow`; the bits of one number (`bits`, `value`); the bits of bytes (`bitsOf`); `fill`; `pack`, and `bitsOf` and `pack` as each
--- other's inverse; little-endian numbers (`le`, `unle`); `bytesFor`.
+-- In order: `AllBelow`; the bits of one number (`bits`, `value`); the bits of bytes (`bitsOf`); `fill`; `pack`, and
+-- `bitsOf` and `pack` as each other's inverse; little-endian numbers (`le`, `unle`); `bytesFor`.
 -- Not here: `bitsCopied`; the order of bits, what they share and where they end (`KeyLaws`).
 -- Assumes nothing.
 use mathlib.Core.List.{_++_, List, [], append-assoc, _∷_}

@@ -1,7 +1,7 @@
--- Laws of lists of entries and of their keys: `each`, `Sound` (`specs/Page.antt`), `keys`, `pointers` (`specs/Normal.antt`), `ascending`
--- (`specs/Edit.antt`).
--- In order: `each`; sound entries; keys and pointers by position; keys in ascending order (`Ascending`), and what the test of entries tells of
--- them.
+-- Laws of lists of entries and of their keys: `each`, `Sound` (`specs/Page.antt`), `keys`, `pointers`
+-- (`specs/Normal.antt`), `ascending` (`specs/Edit.antt`).
+-- In order: `each`; sound entries; keys and pointers by position; keys in ascending order (`Ascending`), and what the
+-- test of entries tells of them.
 -- Not here: the entries of a page (`PageLaws`); what keys share (`StoredLaws`).
 -- Assumes nothing.
 use mathlib.Core.Bool.{_&&_, true}

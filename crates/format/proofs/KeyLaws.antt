@@ -1,6 +1,6 @@
 -- Laws of keys (`specs/Key.antt`).
--- In order: keys; their order (`below`); the bits that two keys share (`sharedBits`), and those of keys in ascending order; the last set bit
--- (`lastSet`); the separator length, and a key out of its first bits.
+-- In order: keys; their order (`below`); the bits that two keys share (`sharedBits`), and those of keys in ascending
+-- order; the last set bit (`lastSet`); the separator length, and a key out of its first bits.
 -- Not here: the bits of numbers and bytes (`BitsLaws`); lists of keys (`EntryLaws`, `StoredLaws`).
 -- Assumes nothing.
 use mathlib.Core.Bool.{Bool, cond, false, false≢true, true}

@@ -1,7 +1,9 @@
--- Laws of the page that lays entries out under a permitted choice: it has those entries, and is accepted (`specs/Normal.antt`).
--- In order: what is read from a page whose parts are known; `Laid`, what is asked of entries and a choice; the parts of the page; its length and
--- header; ends, starts and stored lengths; the body; prefix, separator and key; pointers and entries; that it is accepted, and what a check and a
--- reading answer; the same for the normal page, of entries that fit.
+-- Laws of the page that lays entries out under a permitted choice: it has those entries, and is accepted
+-- (`specs/Normal.antt`).
+-- In order: what is read from a page whose parts are known; `Laid`, what is asked of entries and a choice; the parts
+-- of the page; its length and header; ends, starts and stored lengths; the body; prefix, separator and key; pointers
+-- and entries; that it is accepted, and what a check and a reading answer; the same for the normal page, of entries
+-- that fit.
 -- Not here: that `choice` is the best (`ChoiceLaws`).
 -- Assumes nothing.
 use mathlib.Core.Bool.{true}

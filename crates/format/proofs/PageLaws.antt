@@ -1,5 +1,6 @@
 -- Laws of any page, accepted or not (`specs/Page.antt`).
--- In order: entries by position; the keys that a page holds, and how long they are; pointers and the page number, of a page of bytes; sound entries.
+-- In order: entries by position; the keys that a page holds, and how long they are; pointers and the page number, of
+-- a page of bytes; sound entries.
 -- Not here: a page that none of 1 to 8 refuses (`AcceptedLaws`); a page that was laid out (`NormalLaws`).
 -- Assumes nothing.
 use mathlib.Core.Bool.{Bool, cond, false, true}

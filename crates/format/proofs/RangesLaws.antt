@@ -1,5 +1,6 @@
 -- Laws of what is done with keys and ranges of bits (`specs/Ranges.antt`).
--- In order: `separate`; ranges inside a slice; a part of a list replaced, by index; `bitCopy`, and the bits that it leaves.
+-- In order: `separate`; ranges inside a slice; a part of a list replaced, by index; `bitCopy`, and the bits that it
+-- leaves.
 -- Not here: shared bits and the order of keys (`KeyLaws`).
 -- Assumes nothing.
 use mathlib.Core.Bool.{Bool, _&&_, _||_, cond, false, not, true}

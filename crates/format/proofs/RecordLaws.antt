@@ -1,5 +1,6 @@
 -- Laws of the edit record: what is written is read back, and what is read is what was written (`specs/Edit.antt`).
--- In order: the record's length; its bits; an edit as its kind and its fields; reading what was written; writing what was read.
+-- In order: the record's length; its bits; an edit as its kind and its fields; reading what was written; writing what
+-- was read.
 -- Not here: the entries that edits make (`EditLaws`).
 -- Assumes nothing.
 use mathlib.Core.Bool.{Bool, cond, false, true, _||_}

@@ -1,4 +1,5 @@
--- Both sides of the lines that document 01 draws, by computation; each of the refusals 1 to 19 is given at least once.
+-- Both sides of the lines that document 01 draws, by computation; each of the refusals 1 to 19 is given at least
+-- once.
 -- In order: `Pages` (1 to 8, 16), `Builds` (9 to 15), `Calls` (17 to 19).
 -- Not here: a full page of 108 entries, read and built, and the outside cases (crate `cases`).
 -- Assumes nothing.
@@ -113,7 +114,8 @@ pub record Builds : Type 0 where
   pub record-long : built (hex 5 0x0060000200) 4096 43 .answer ≡ Answer.Refused 10
   pub record-kind-3 : built (hex 4 0x00700002) 4096 43 .answer ≡ Answer.Refused 10
   pub record-before-outside : built (hex 7 0x005FFC00000015) 4096 43 .answer ≡ Answer.Refused 10
-  -- 11: both kept, and one past them; an empty run, and one turned round; the last position, and one past it; 11 comes before 13
+  -- 11: both kept, and one past them; an empty run, and one turned round; the last position, and one past it; 11
+  -- comes before 13
   pub keep-all : built (recordOf (Keep 0 2 ∷ [])) 4096 4 .answer ≡ Answer.Value (record { n = 2; m = 2; q = 1; bits = 2; undo = 4 })
   pub keep-past : built (recordOf (Keep 0 3 ∷ [])) 4096 4 .answer ≡ Answer.Refused 11
   pub keep-none : built (recordOf (Keep 1 1 ∷ [])) 4096 43 .answer ≡ Answer.Refused 11
@@ -130,11 +132,13 @@ pub record Builds : Type 0 where
   pub keys-rise : built (recordOf (Keep 0 1 ∷ Insert (key 0xA0) 5 ∷ Keep 1 2 ∷ [])) 4096 7 .answer ≡ Answer.Value (record { n = 3; m = 3; q = 1; bits = 4; undo = 7 })
   -- 14: 108 entries with 4,087 body bytes; with 4,086 they are built (crate `cases`); 14 comes before 15
   pub room-4087 : first (editTests [] (inserts (full 239)) 1) ≡ 14
-  -- 15: an undo record of 43 bytes in 43 (above) and in 42; a refusal changes nothing, and behind the record nothing changes
+  -- 15: an undo record of 43 bytes in 43 (above) and in 42; a refusal changes nothing, and behind the record nothing
+  -- changes
   pub undo-42 : built (recordOf (Update 0 5 ∷ [])) 4096 42 ≡ record { answer = Answer.Refused 15; page = zeros 4096; undo = zeros 42 }
   pub undo-45 : build (normalPage 7 two) (recordOf (Keep 0 2 ∷ [])) 8 (zeros 4096) (hex 6 0x010203040506)
       ≡ record { answer = Answer.Value (record { n = 2; m = 2; q = 1; bits = 2; undo = 4 }); page = normalPage 8 two; undo = hex 6 0x006000020506 }
-  -- the undo record: one run for what is kept, an Update at the position in the new page, an Insert for what is absent
+  -- the undo record: one run for what is kept, an Update at the position in the new page, an Insert for what is
+  -- absent
   pub undo-kept : undoRecord two two ≡ recordOf (Keep 0 2 ∷ [])
   pub undo-updated : undoRecord two (record { key = key 0; pointer = 1 } ∷ record { key = key 0x80; pointer = 5 } ∷ []) ≡ recordOf (Update 1 17 ∷ Insert (key 0xC0) 34 ∷ [])
   pub undo-parted : undoRecord two (record { key = key 0x80; pointer = 17 } ∷ record { key = key 0xA0; pointer = 5 } ∷ record { key = key 0xC0; pointer = 34 } ∷ []) ≡ recordOf (Keep 0 1 ∷ Keep 2 3 ∷ [])
@@ -182,7 +186,8 @@ pub record Calls : Type 0 where
   -- 17: a < b (in the table), a = b, a > b
   pub separate-equal : separate (key 0x80) (key 0x80) ≡ Answer.Refused 17
   pub separate-above : separate (key 0x80) (key 0) ≡ Answer.Refused 17
-  -- 18: no bits lie inside wherever they start; the last bit, and one past it, in either slice; 2^64 - 1 does not wrap
+  -- 18: no bits lie inside wherever they start; the last bit, and one past it, in either slice; 2^64 - 1 does not
+  -- wrap
   pub copy-none : bitCopy (0xFF ∷ []) 99 [] 99 0 ≡ Answer.Value (0xFF ∷ [])
   pub copy-last : bitCopy (0xFF ∷ []) 7 (0xFE ∷ []) 7 1 ≡ Answer.Value (0xFE ∷ [])
   pub copy-past : bitCopy (0xFF ∷ []) 8 (0xFE ∷ []) 7 1 ≡ Answer.Refused 18

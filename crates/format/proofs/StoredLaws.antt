@@ -1,6 +1,6 @@
 -- Laws of what a page stores of keys (`specs/Normal.antt`).
--- In order: `sum` and `running`; `words`; the bits that all keys share (`sharedWith`, `sharedByAll`); stored lengths and their sum; stored bits,
--- one key at a time (`stored`).
+-- In order: `sum` and `running`; `words`; the bits that all keys share (`sharedWith`, `sharedByAll`); stored lengths
+-- and their sum; stored bits, one key at a time (`stored`).
 -- Not here: laws of one or two keys (`KeyLaws`); which choice is best (`ChoiceLaws`); the page (`NormalLaws`).
 -- Assumes nothing.
 use mathlib.Core.List.{_++_, List, [], append-assoc, map, _∷_}

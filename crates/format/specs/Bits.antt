@@ -1,4 +1,5 @@
--- Bits as lists of 0 and 1, most significant first, and numbers as little-endian bytes. Document 01, "The page", "Edit record".
+-- Bits as lists of 0 and 1, most significant first, and numbers as little-endian bytes. Document 01, "The page",
+-- "Edit record".
 -- In order: bits bitsOf value · fill pack bytesFor · le unle · AllBelow.
 -- Assumes nothing.
 use Prim.Native.Nat.{ℕ, zero, suc, _+_, _*_, _/_, _%_, _^_, _<_}

@@ -1,4 +1,5 @@
--- Build: its answer, and the output page and the undo buffer as it leaves them. Document 01, "Undo record" (its end), and the refusals 1 to 15.
+-- Build: its answer, and the output page and the undo buffer as it leaves them. Document 01, "Undo record" (its end),
+-- and the refusals 1 to 15.
 -- In order: baseTests editsOf malformed editTests buildTests · Numbers Built refused accepted afterTests build.
 -- Assumes nothing.
 use Prim.Native.Nat.{ℕ, zero, suc}
@@ -68,7 +69,8 @@ pub record Built : Type 0 where
 unfoldable pub refused : ℕ → List ℕ → List ℕ → Built
 refused r page undo = record { answer = Answer.Refused r; page = page; undo = undo }
 
--- An accepted build: the numbers, the normal page of the new entries, and the undo record, behind which the buffer keeps its content.
+-- An accepted build: the numbers, the normal page of the new entries, and the undo record, behind which the buffer
+-- keeps its content.
 unfoldable pub accepted : List Entry → List Entry → ℕ → List ℕ → Built
 unfolding choice keys normalPage undoRecord
 accepted base new number undo =
@@ -90,4 +92,5 @@ afterTests (suc r) base new number page undo = refused (suc r) page undo
 unfoldable pub build : List ℕ → List ℕ → ℕ → List ℕ → List ℕ → Built
 unfolding afterTests first buildTests entries apply editsOf readRecord
 build base rec number page undo =
-    afterTests (first (buildTests base rec page undo)) (entries base) (apply (entries base) (editsOf (readRecord rec))) number page undo
+    afterTests (first (buildTests base rec page undo)) (entries base)
+    (apply (entries base) (editsOf (readRecord rec))) number page undo

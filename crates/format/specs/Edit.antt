@@ -1,4 +1,5 @@
--- The edit record, and the entries that edits make of a base's. Document 01, "Edit record", and the refusals 10 to 13.
+-- The edit record, and the entries that edits make of a base's. Document 01, "Edit record", and the refusals 10 to
+-- 13.
 --     BITS    WHAT
 --       10    count of edits
 --        2    an edit's kind, and then its fields:
@@ -7,8 +8,8 @@
 --                 2  Keep start end           10, 10    end excluded
 --                 3  malformed
 --       ..    zero bits to the byte's end, and no byte more
--- In order: Edit WellFormed AllWellFormed · editBits editsBits recordOf · fieldBits editOf padding andThen readEdits readRecord ·
--- noEntry made apply · outside anyOutside · ascendingFrom ascending.
+-- In order: Edit WellFormed AllWellFormed · editBits editsBits recordOf · fieldBits editOf padding andThen readEdits
+-- readRecord · noEntry made apply · outside anyOutside · ascendingFrom ascending.
 -- Assumes nothing.
 use Prim.Native.Nat.{ℕ, zero, suc, _+_, _-_, _*_, _^_, _<_}
 use mathlib.Core.Bool.{Bool, true, false, cond, _||_, _&&_}
@@ -20,7 +21,8 @@ use Rattle.format.specs.Bits.{bitsOf, bits, value, pack, bytesFor}
 use Rattle.format.specs.Key.{IsKey, below}
 use Rattle.format.specs.Page.{Entry}
 
--- An edit: a key and its pointer; a position in the base and its new pointer; the positions from start up to end, end excluded.
+-- An edit: a key and its pointer; a position in the base and its new pointer; the positions from start up to end, end
+-- excluded.
 pub data Edit : Type 0 where
   Insert : List ℕ → ℕ → Edit
   Update : ℕ → ℕ → Edit
@@ -79,7 +81,8 @@ unfoldable pub andThen : Edit → Option (List Edit) → Option (List Edit)
 andThen e none = none
 andThen e (some es) = some (e ∷ es)
 
--- The n edits that bs spell, with nothing but padding behind them; none where bs end before that, have a kind 3, or go on.
+-- The n edits that bs spell, with nothing but padding behind them; none where bs end before that, have a kind 3, or
+-- go on.
 unfoldable pub readEdits : ℕ → List ℕ → Option (List Edit)
 unfolding padding value fieldBits editOf andThen
 readEdits zero bs = cond (padding bs) (some []) none
@@ -115,7 +118,8 @@ unfolding made
 apply b [] = []
 apply b (e ∷ es) = made b e ++ apply b es
 
--- An edit names a position that a base of n entries has not, or keeps nothing: Update position ≥ n; Keep with start ≥ end or end > n.
+-- An edit names a position that a base of n entries has not, or keeps nothing: Update position ≥ n; Keep with start ≥
+-- end or end > n.
 unfoldable pub outside : ℕ → Edit → Bool
 outside n (Insert k p) = false
 outside n (Update i p) = leb n i

@@ -25,12 +25,14 @@ below (x ∷ xs) (y ∷ ys) = cond (eqb x y) (below xs ys) (ltb x y)
 abbrev pub sameKey : List ℕ → List ℕ → Bool
 sameKey a b = eqb (value a) (value b)
 
--- How far a bit b and those behind it reach, where those reach as far as their n-th: where none of them is set, as far as b itself.
+-- How far a bit b and those behind it reach, where those reach as far as their n-th: where none of them is set, as
+-- far as b itself.
 unfoldable pub reach : ℕ → ℕ → ℕ
 reach b zero = b
 reach b (suc n) = suc (suc n)
 
--- How many bits there are up to the last that is set, and with it: all but the zero bits at the end; 0 where none is set.
+-- How many bits there are up to the last that is set, and with it: all but the zero bits at the end; 0 where none is
+-- set.
 unfoldable pub lastSet : List ℕ → ℕ
 unfolding reach
 lastSet [] = 0

@@ -1,6 +1,7 @@
--- The normal page of entries: the choice of m and q with the fewest bits, and the bytes. Document 01, "The normal page".
--- In order: sum keys pointers · sharedWith sharedByAll Permitted · storedLengths storedBits bitsUnder · Choice candidate bestUpTo choice ·
--- firstKey running words pageUnder normalPage · fits.
+-- The normal page of entries: the choice of m and q with the fewest bits, and the bytes. Document 01, "The normal
+-- page".
+-- In order: sum keys pointers · sharedWith sharedByAll Permitted · storedLengths storedBits bitsUnder · Choice
+-- candidate bestUpTo choice · firstKey running words pageUnder normalPage · fits.
 -- Assumes nothing.
 use Prim.Native.Nat.{ℕ, zero, suc, _+_, _-_, _*_, _≤_, min}
 use mathlib.Core.Bool.{Bool, cond}
@@ -105,7 +106,8 @@ unfolding le
 words w [] = []
 words w (x ∷ xs) = le w x ++ words w xs
 
--- The page that lays entries out under a choice of m and q, field by field as in `Page`, with zeros between the last separator and the pointers.
+-- The page that lays entries out under a choice of m and q, field by field as in `Page`, with zeros between the last
+-- separator and the pointers.
 unfoldable pub pageUnder : ℕ → List Entry → ℕ → ℕ → List ℕ
 unfolding le words running storedLengths storedBits pack keys firstKey pointers
 pageUnder number es m q =

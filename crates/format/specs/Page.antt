@@ -8,9 +8,11 @@
 --    10 + 2n         ..    q bits of prefix, the separators with no gap, and ignored bits
 --  4096 - 4n         4n    the pointers
 -- Numbers are little-endian. Entry i is the prefix, if i < m, its separator, and zero bits up to 256.
--- In order: Entry Sound · pageNumber count compressed prefixLength · bitsStart pointersStart · endOf startOf lastEnd storedLength ·
--- body prefixOf separatorOf keyOf pointerOf entryOf · each entries · bodyBytes entryBits pageTests pageRefusal · Header checkPage readEntry.
--- What a page of any other length "has" is defined too (bytes past the end count as 0), and never answered: refusal 1 comes first.
+-- In order: Entry Sound · pageNumber count compressed prefixLength · bitsStart pointersStart · endOf startOf lastEnd
+-- storedLength · body prefixOf separatorOf keyOf pointerOf entryOf · each entries · bodyBytes entryBits pageTests
+-- pageRefusal · Header checkPage readEntry.
+-- What a page of any other length "has" is defined too (bytes past the end count as 0), and never answered: refusal 1
+-- comes first.
 -- Assumes nothing.
 use Prim.Native.Nat.{ℕ, zero, suc, _+_, _-_, _*_, _^_, _<_}
 use mathlib.Core.Bool.{Bool, not, cond, _||_}
@@ -162,7 +164,14 @@ pub record Header : Type 0 where
 -- The header of a page.
 unfoldable pub headerOf : List ℕ → Header
 unfolding pageNumber count compressed prefixLength startOf
-headerOf p = record { number = pageNumber p; n = count p; m = compressed p; q = prefixLength p; bits = prefixLength p + lastEnd p }
+headerOf p =
+    record {
+      number = pageNumber p;
+      n = count p;
+      m = compressed p;
+      q = prefixLength p;
+      bits = prefixLength p + lastEnd p;
+    }
 
 -- Check: the header, or one of 1 to 8.
 unfoldable pub checkPage : List ℕ → Answer Header

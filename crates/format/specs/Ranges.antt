@@ -1,4 +1,5 @@
--- What is done with keys and with ranges of bits: separate, bit copy, key rebuilding. Document 01, "The page", and the refusals 17, 18 and 19.
+-- What is done with keys and with ranges of bits: separate, bit copy, key rebuilding. Document 01, "The page", and
+-- the refusals 17, 18 and 19.
 -- In order: separate · inside bitsCopied bitCopy · rebuildKey.
 -- Assumes nothing.
 use Prim.Native.Nat.{ℕ, _+_, _*_}
@@ -16,7 +17,8 @@ unfoldable pub separate : List ℕ → List ℕ → Answer (List ℕ)
 unfolding unless first below separator
 separate a b = unless (first (refuse 17 (not (below a b)) ∷ [])) (separator a b)
 
--- A range of len bits from `at` on lies in a slice of size bytes; a range of length 0 lies in any slice, whatever its start.
+-- A range of len bits from `at` on lies in a slice of size bytes; a range of length 0 lies in any slice, whatever its
+-- start.
 unfoldable pub inside : ℕ → ℕ → ℕ → Bool
 inside size at len = eqb len 0 || leb (at + len) (8 * size)
 
@@ -33,8 +35,8 @@ bitCopy dst to src from len =
     (first (refuse 18 (not (inside (length dst) to len && inside (length src) from len)) ∷ []))
     (bitsCopied dst to src from len)
 
--- Key rebuilding: the first p bits of prefix, the s bits of sep from `at` on, zero bits up to 256; 18 where a range lies outside its slice,
--- then 19 for more than 256 bits.
+-- Key rebuilding: the first p bits of prefix, the s bits of sep from `at` on, zero bits up to 256; 18 where a range
+-- lies outside its slice, then 19 for more than 256 bits.
 unfoldable pub rebuildKey : List ℕ → ℕ → List ℕ → ℕ → ℕ → Answer (List ℕ)
 unfolding unless first inside bitsOf fill
 rebuildKey prefix p sep at s =

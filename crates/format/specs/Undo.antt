@@ -11,7 +11,8 @@ use Rattle.format.specs.Page.{Entry}
 use Rattle.format.specs.Edit.{Edit, recordOf}
 use Rattle.format.specs.Edit.Edit.{Insert, Update, Keep}
 
--- The edit that brings the base's entry b back, where the new page has es from position i on: Keep where its key is there with the same pointer,
+-- The edit that brings the base's entry b back, where the new page has es from position i on: Keep where its key is
+-- there with the same pointer,
 -- Update where it is there with another, Insert where it is absent.
 unfoldable pub bring : Entry → ℕ → List Entry → Edit
 unfolding value
@@ -29,7 +30,8 @@ joined (Keep s e) (Insert k p ∷ es) = Keep s e ∷ Insert k p ∷ es
 joined (Keep s e) (Update i p ∷ es) = Keep s e ∷ Update i p ∷ es
 joined (Keep s e) (Keep t f ∷ es) = cond (eqb e t) (Keep s f ∷ es) (Keep s e ∷ Keep t f ∷ es)
 
--- An edit for each entry of the base, in order, the kept ones joined into the longest runs of neighbours in both pages; none for no base.
+-- An edit for each entry of the base, in order, the kept ones joined into the longest runs of neighbours in both
+-- pages; none for no base.
 unfoldable pub undoEdits : List Entry → List Entry → List Edit
 unfolding joined bring
 undoEdits [] new = []

@@ -1,4 +1,5 @@
--- Closed instances of the theorems, numbered as they are: their hypotheses can be met. What is not a theorem's conclusion is computed.
+-- Closed instances of the theorems, numbered as they are: their hypotheses can be met. What is not a theorem's
+-- conclusion is computed.
 -- In order: the entries and pages that serve; words; 1 to 11.
 -- Not here: the theorems (`Proved`); document 01's table (`Rattle.format.proofs.Table`).
 -- Assumes nothing.
@@ -86,7 +87,8 @@ plain-accepted : pageRefusal plain ≡ 0
 unfolding pageRefusal plain pageUnder two
 plain-accepted = refl
 
--- a build that drops the second entry and gives the first another pointer; its undo is an Update and an Insert, 43 bytes
+-- a build that drops the second entry and gives the first another pointer; its undo is an Update and an Insert, 43
+-- bytes
 abbrev edit : List ℕ
 edit = hex 7 0x00500000000014
 

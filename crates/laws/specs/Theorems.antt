@@ -1,4 +1,5 @@
--- What is promised of the definitions of `format`, numbered as in docs/STATEMENTS.md; `proofs/Proved.antt` has a term of each.
+-- What is promised of the definitions of `format`, numbered as in docs/STATEMENTS.md; `proofs/Proved.antt` has a term
+-- of each.
 --      1  ReadBack CheckedBack                          a normal page reads back
 --      2  Fewest Tie PermittedChoice                    the choice of m and q
 --      3  Room                                          when there is none
@@ -8,8 +9,8 @@
 --      7  UndoApplies UndoInside UndoCount UndoBound UndoRuns       undo records
 --      8  Back BackNormal Forth                         demand 3
 --      9  SameEntries                                   what a build depends on
---     10  FirstPageRefusal FirstEntryRefusal FirstRefusal AcceptedExactly Untouched AcceptedBuild UndoKept    refusals and lent memory
---     11  NoBase NoEdits                                no base
+--     10  FirstPageRefusal FirstEntryRefusal FirstRefusal AcceptedExactly Untouched AcceptedBuild UndoKept
+--                                                       refusals and lent memory
 -- Assumes nothing.
 use mathlib.Core.Bool.{true, false}
 use mathlib.Core.List.{List, [], _∷_, _++_, map}
@@ -38,7 +39,8 @@ pub record Rising (es : List Entry) : Type 0 where
   pub sound : Sound es
   pub rises : ascending es ≡ true
 
--- A page that reads as a page number and entries: it has 4,096 bytes, none of 1 to 8 refuses it, and every index answers its entry.
+-- A page that reads as a page number and entries: it has 4,096 bytes, none of 1 to 8 refuses it, and every index
+-- answers its entry.
 pub record ReadsAs (p : List ℕ) (number : ℕ) (es : List Entry) : Type 0 where
   pub size : length p ≡ 4096
   pub bytes : AllBelow 256 p
@@ -50,21 +52,30 @@ pub record ReadsAs (p : List ℕ) (number : ℕ) (es : List Entry) : Type 0 wher
 
 -- The normal page of entries that fit reads as them.
 abbrev pub ReadBack : Type 0
-ReadBack = (number : ℕ) (es : List Entry) → number < 2 ^ 32 → Rising es → fits es ≡ true → ReadsAs (normalPage number es) number es
+ReadBack = (number : ℕ) (es : List Entry) → number < 2 ^ 32 → Rising es → fits es ≡ true
+    → ReadsAs (normalPage number es) number es
 
 -- A check of the normal page answers the m, q and bits of the choice.
 abbrev pub CheckedBack : Type 0
 CheckedBack = (number : ℕ) (es : List Entry) → number < 2 ^ 32 → Rising es → fits es ≡ true
     → checkPage (normalPage number es)
-    ≡ Answer.Value (record { number = number; n = length es; m = choice (keys es) .m; q = choice (keys es) .q; bits = choice (keys es) .bits })
+    ≡ Answer.Value (record {
+      number = number;
+      n = length es;
+      m = choice (keys es) .m;
+      q = choice (keys es) .q;
+      bits = choice (keys es) .bits;
+    })
 
 -- ---- 2. The choice
 
 -- No permitted choice has fewer bits than the normal page's.
 abbrev pub Fewest : Type 0
-Fewest = (es : List Entry) → Rising es → (m q : ℕ) → Permitted (keys es) m q → choice (keys es) .bits ≤ bitsUnder (keys es) m q
+Fewest = (es : List Entry) → Rising es → (m q : ℕ) → Permitted (keys es) m q
+    → choice (keys es) .bits ≤ bitsUnder (keys es) m q
 
--- The choice is a candidate, no candidate has fewer bits, and each with a larger m has more: ties go to the largest m.
+-- The choice is a candidate, no candidate has fewer bits, and each with a larger m has more: ties go to the largest
+-- m.
 abbrev pub Tie : Type 0
 Tie = (ks : List (List ℕ)) → 1 ≤ length ks
     → (choice ks ≡ candidate ks (choice ks .m))
@@ -81,7 +92,8 @@ PermittedChoice = (ks : List (List ℕ)) → 1 ≤ length ks
 -- Entries do not fit exactly where no permitted choice has body bytes of at most 4,086.
 abbrev pub Room : Type 0
 Room = (es : List Entry) → Rising es
-    → (fits es ≡ false) ↔ ((m q : ℕ) → Permitted (keys es) m q → 4086 < bodyBytes (length es) q (sum (storedLengths m q (keys es))))
+    → (fits es ≡ false)
+    ↔ ((m q : ℕ) → Permitted (keys es) m q → 4086 < bodyBytes (length es) q (sum (storedLengths m q (keys es))))
 
 -- ---- 4. Lengths below the prefix, and sums
 
@@ -90,22 +102,26 @@ abbrev pub LaterLonger : Type 0
 LaterLonger = (es : List Entry) → Rising es → (m q i : ℕ) → Permitted (keys es) m q
     → suc i < m → q < separatorLength (getD (keys es) (suc i) [])
 
--- The bits of a permitted choice come from the whole lengths: max(first - q, 0) + the others - (m - 1) * q, and q for the prefix.
+-- The bits of a permitted choice come from the whole lengths: max(first - q, 0) + the others - (m - 1) * q, and q for
+-- the prefix.
 abbrev pub SumFormula : Type 0
 SumFormula = (es : List Entry) → Rising es → (m q : ℕ) → Permitted (keys es) (suc m) q
-    → bitsUnder (keys es) (suc m) q + min (separatorLength (getD (keys es) 0 [])) q + m * q ≡ sum (map separatorLength (keys es)) + q
+    → bitsUnder (keys es) (suc m) q + min (separatorLength (getD (keys es) 0 [])) q + m * q
+    ≡ sum (map separatorLength (keys es)) + q
 
 -- The size formula answers the stored lengths of a permitted choice from the whole ones, if these fit 64 bits.
 abbrev pub StoredFromWhole : Type 0
 StoredFromWhole = (e : Entry) (es : List Entry) → Rising (e ∷ es) → sum (map separatorLength (keys (e ∷ es))) < 2 ^ 64
     → (m q : ℕ) → Permitted (keys (e ∷ es)) m q
-    → storedFromWhole (separatorLength (e .key)) m (sum (map separatorLength (keys es))) q ≡ Answer.Value (sum (storedLengths m q (keys (e ∷ es))))
+    → storedFromWhole (separatorLength (e .key)) m (sum (map separatorLength (keys es))) q
+    ≡ Answer.Value (sum (storedLengths m q (keys (e ∷ es))))
 
 -- And the whole lengths from the stored ones, where all keys leave out the prefix.
 abbrev pub WholeFromStored : Type 0
 WholeFromStored = (e : Entry) (es : List Entry) → Rising (e ∷ es) → sum (map separatorLength (keys (e ∷ es))) < 2 ^ 64
     → (n q : ℕ) → n ≡ length (e ∷ es) → Permitted (keys (e ∷ es)) n q
-    → wholeFromStored q (sum (storedLengths n q (keys (e ∷ es)))) n (separatorLength (e .key)) ≡ Answer.Value (sum (map separatorLength (keys (e ∷ es))))
+    → wholeFromStored q (sum (storedLengths n q (keys (e ∷ es)))) n (separatorLength (e .key))
+    ≡ Answer.Value (sum (map separatorLength (keys (e ∷ es))))
 
 -- ---- 5. An accepted page
 
@@ -141,7 +157,8 @@ UndoInside = (base new : List Entry) → anyOutside (length new) (undoEdits base
 
 -- Undo has an edit, and no more edits than the base has entries.
 abbrev pub UndoCount : Type 0
-UndoCount = (base new : List Entry) → 1 ≤ length base → (1 ≤ length (undoEdits base new)) × (length (undoEdits base new) ≤ length base)
+UndoCount = (base new : List Entry) → 1 ≤ length base
+    → (1 ≤ length (undoEdits base new)) × (length (undoEdits base new) ≤ length base)
 
 -- No undo record exceeds 24,688 bytes.
 abbrev pub UndoBound : Type 0
@@ -178,17 +195,20 @@ pub record Lent (page undo : List ℕ) : Type 0 where
   pub size : length page ≡ 4096
   pub room : 24688 ≤ length undo
 
--- Building over the new page with the undo record and the base's page number is never refused and gives the normal page of the base's entries.
+-- Building over the new page with the undo record and the base's page number is never refused and gives the normal
+-- page of the base's entries.
 abbrev pub Back : Type 0
 Back = (base rec : List ℕ) (number : ℕ) (page undo : List ℕ) (v : Numbers) → Once base rec number page undo v
     → (page₂ undo₂ : List ℕ) → Lent page₂ undo₂
-    → Gives (again (build base rec number page undo) v (pageNumber base) page₂ undo₂) (normalPage (pageNumber base) (entries base))
+    → Gives (again (build base rec number page undo) v (pageNumber base) page₂ undo₂)
+    (normalPage (pageNumber base) (entries base))
 
 -- It gives the base itself, byte for byte, if that was normal.
 abbrev pub BackNormal : Type 0
 BackNormal = (base rec : List ℕ) (number : ℕ) (page undo : List ℕ) (v : Numbers) → Once base rec number page undo v
     → (page₂ undo₂ : List ℕ) → Lent page₂ undo₂
-    → base ≡ normalPage (pageNumber base) (entries base) → Gives (again (build base rec number page undo) v (pageNumber base) page₂ undo₂) base
+    → base ≡ normalPage (pageNumber base) (entries base)
+    → Gives (again (build base rec number page undo) v (pageNumber base) page₂ undo₂) base
 
 -- That build's undo record, with the new page's number, gives the new page again.
 abbrev pub Forth : Type 0
@@ -196,7 +216,8 @@ Forth = (base rec : List ℕ) (number : ℕ) (page undo : List ℕ) (v : Numbers
     → (page₂ undo₂ : List ℕ) → Lent page₂ undo₂
     → (w : Numbers) → again (build base rec number page undo) v (pageNumber base) page₂ undo₂ .answer ≡ Answer.Value w
     → (page₃ undo₃ : List ℕ) → Lent page₃ undo₃
-    → Gives (again (again (build base rec number page undo) v (pageNumber base) page₂ undo₂) w number page₃ undo₃) (build base rec number page undo .page)
+    → Gives (again (again (build base rec number page undo) v (pageNumber base) page₂ undo₂) w number page₃ undo₃)
+    (build base rec number page undo .page)
 
 -- ---- 9. What a build depends on
 
@@ -214,7 +235,8 @@ FirstPageRefusal = (p : List ℕ) (r : ℕ) → (pageRefusal p ≡ suc r) ↔ Fi
 
 -- Entry reading is refused with r exactly where r is the first of 1 to 8 and 16 whose condition holds.
 abbrev pub FirstEntryRefusal : Type 0
-FirstEntryRefusal = (p : List ℕ) (i r : ℕ) → (readEntry p i ≡ Answer.Refused r) ↔ FirstHolds (pageTests p ++ refuse 16 (leb (count p) i) ∷ []) r
+FirstEntryRefusal = (p : List ℕ) (i r : ℕ)
+    → (readEntry p i ≡ Answer.Refused r) ↔ FirstHolds (pageTests p ++ refuse 16 (leb (count p) i) ∷ []) r
 
 -- A build is refused with r exactly where r is the first of 1 to 15 whose condition holds.
 abbrev pub FirstRefusal : Type 0
@@ -224,14 +246,17 @@ FirstRefusal = (base rec : List ℕ) (number : ℕ) (page undo : List ℕ) (r : 
 -- A build is accepted exactly where none of 1 to 15 holds.
 abbrev pub AcceptedExactly : Type 0
 AcceptedExactly = (base rec : List ℕ) (number : ℕ) (page undo : List ℕ)
-    → ((v : Numbers) × (build base rec number page undo .answer ≡ Answer.Value v)) ↔ NoneHolds (buildTests base rec page undo)
+    → ((v : Numbers) × (build base rec number page undo .answer ≡ Answer.Value v))
+    ↔ NoneHolds (buildTests base rec page undo)
 
 -- A refusal leaves lent memory unchanged.
 abbrev pub Untouched : Type 0
-Untouched = (base rec : List ℕ) (number : ℕ) (page undo : List ℕ) (r : ℕ) → build base rec number page undo .answer ≡ Answer.Refused r
+Untouched = (base rec : List ℕ) (number : ℕ) (page undo : List ℕ) (r : ℕ)
+    → build base rec number page undo .answer ≡ Answer.Refused r
     → (build base rec number page undo .page ≡ page) × (build base rec number page undo .undo ≡ undo)
 
--- An accepted build over new entries: its numbers are theirs, the page is their normal page, and the undo buffer begins with the undo record.
+-- An accepted build over new entries: its numbers are theirs, the page is their normal page, and the undo buffer
+-- begins with the undo record.
 pub record Accepts (base : List ℕ) (new : List Entry) (number : ℕ) (v : Numbers) (after : Built) : Type 0 where
   pub n : v .n ≡ length new
   pub m : v .m ≡ choice (keys new) .m
@@ -243,19 +268,24 @@ pub record Accepts (base : List ℕ) (new : List Entry) (number : ℕ) (v : Numb
 
 -- An accepted build answers and leaves what belongs to the entries that its edits make.
 abbrev pub AcceptedBuild : Type 0
-AcceptedBuild = (base rec : List ℕ) (number : ℕ) (page undo : List ℕ) (v : Numbers) → build base rec number page undo .answer ≡ Answer.Value v
-    → (es : List Edit) × (readRecord rec ≡ some es) × Accepts base (apply (entries base) es) number v (build base rec number page undo)
+AcceptedBuild = (base rec : List ℕ) (number : ℕ) (page undo : List ℕ) (v : Numbers)
+    → build base rec number page undo .answer ≡ Answer.Value v
+    → (es : List Edit)
+    × (readRecord rec ≡ some es)
+    × Accepts base (apply (entries base) es) number v (build base rec number page undo)
 
 -- Bytes of the undo buffer past the undo record keep their content.
 abbrev pub UndoKept : Type 0
-UndoKept = (base rec : List ℕ) (number : ℕ) (page undo : List ℕ) (v : Numbers) → build base rec number page undo .answer ≡ Answer.Value v
+UndoKept = (base rec : List ℕ) (number : ℕ) (page undo : List ℕ) (v : Numbers)
+    → build base rec number page undo .answer ≡ Answer.Value v
     → drop (v .undo) (build base rec number page undo .undo) ≡ drop (v .undo) undo
 
 -- ---- 11. No base
 
 -- With no base the undo record is 00 00.
 abbrev pub NoBase : Type 0
-NoBase = (rec : List ℕ) (number : ℕ) (page undo : List ℕ) (v : Numbers) → build [] rec number page undo .answer ≡ Answer.Value v
+NoBase = (rec : List ℕ) (number : ℕ) (page undo : List ℕ) (v : Numbers)
+    → build [] rec number page undo .answer ≡ Answer.Value v
     → take (v .undo) (build [] rec number page undo .undo) ≡ 0 ∷ 0 ∷ []
 
 -- And a build with it over an accepted page is refused with 12.

@@ -14,9 +14,11 @@ use Rattle.format.specs.Ranges.{separate, bitCopy}
 
 -- The order of keys is that of the numbers that they spell, and keys are the same only if they are equal.
 abbrev pub OrderWords : Type 0
-OrderWords = (a b : List ℕ) → IsKey a → IsKey b → ((below a b ≡ true) ↔ (value a < value b)) × ((sameKey a b ≡ true) ↔ (a ≡ b))
+OrderWords = (a b : List ℕ) → IsKey a → IsKey b
+    → ((below a b ≡ true) ↔ (value a < value b)) × ((sameKey a b ≡ true) ↔ (a ≡ b))
 
--- The bits of a key from its separator length on are zero, and the last before it is set: but for a length of 1, where it need not be.
+-- The bits of a key from its separator length on are zero, and the last before it is set: but for a length of 1,
+-- where it need not be.
 pub record LengthOf (k : List ℕ) (n : ℕ) : Type 0 where
   pub low : 1 ≤ n
   pub high : n ≤ 256
