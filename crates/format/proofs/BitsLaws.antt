@@ -1,7 +1,7 @@
 -- Laws of bits, bytes and little-endian numbers (`specs/Bits.antt`).
 -- In order: `AllBelow`; the bits of one number (`bits`, `value`); the bits of bytes (`bitsOf`); `fill`; `pack`, and
 -- `bitsOf` and `pack` as each other's inverse; little-endian numbers (`le`, `unle`); `bytesFor`.
--- Not here: `bitsCopied`; the order of bits, what they share and where they end (`KeyLaws`).
+-- Not here: a run of bits copied (`RangesLaws`); the order of bits, what they share and where they end (`KeyLaws`).
 -- Assumes nothing.
 use mathlib.Core.List.{_++_, List, [], append-assoc, _∷_}
 use mathlib.Core.Path.{ap, ap₂, refl, subst, sym, _∙_, _≡_}

@@ -1,6 +1,5 @@
 -- Laws of building back: the undo record of an accepted build brings the base's entries back, and that build's undo
--- record the new ones (document
--- 01's demand 3).
+-- record the new ones (document 01's demand 3).
 -- In order: entries that a normal page holds (`Held`), of a base and of an accepted build; the undo record over a
 -- page; back and forth; the undo record's length; no base.
 -- Not here: that a normal page reads back (`NormalLaws`); what undo edits make (`UndoLaws`).

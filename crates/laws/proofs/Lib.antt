@@ -1,4 +1,4 @@
--- A term for each statement of specs/Theorems.antt, and closed instances of them.
+-- A term for each statement of specs/, and closed instances of them.
 pub mod BackLaws
 pub mod Proved
 pub mod Instances
