@@ -1,0 +1,98 @@
+// Runs of bits: where they lie, and their copy.
+use crate::places;
+use crate::places::Place;
+ghost use mathlib.Core.Path.{_≡_};
+ghost use Prim.Native.Nat.{_+_, _*_, _≤_, _<_};
+ghost use lib.ListN.{length};
+ghost use Rattle.format.specs.Ranges.{inside, bitsCopied};
+ghost use Rattle.bit_ops.specs.Runs.{Moved};
+
+// The bytes that `len` bits from the bit `at` on reach into: no sum here wraps.
+fn bytes_for(at: usize, len: usize) -> usize
+    ensures { λ r. ⌜ (at + len ≤ 8 * r) × (8 * r < at + len + 8) ⌝ }
+{
+    at / 8 + len / 8 + (at % 8 + len % 8 + 7) / 8
+}
+
+// Whether `len` bits from the bit `at` on lie inside `size` bytes.
+pub(crate) fn lies_inside(size: usize, at: usize, len: usize) -> bool
+    ensures { λ r. ⌜ r ≡ inside size at len ⌝ }
+{
+    if len == 0 {
+        return true;
+    }
+    bytes_for(at, len) <= size
+}
+
+// Copies n bits into one byte.
+fn copy_few(dst: &mut [u8], to: Place, src: &[u8], of: Place, n: usize)
+    requires { ⌜ (to .bit + n ≤ 8) × (8 * to .byte + to .bit + n ≤ 8 * length (now dst)) ⌝ }
+    requires { ⌜ (of .bit < 8) × (8 * of .byte + of .bit + n ≤ 8 * length (now src)) ⌝ }
+    ensures { λ _. ⌜ Moved (now (dst .entry)) (8 * to .byte + to .bit) (now (src .entry)) (8 * of .byte + of .bit) n (now (dst .exit)) ⌝ }
+{
+    if n == 0 {
+        return;
+    }
+    let v = places::get_bits(src, of, n);
+    places::put_bits(dst, to, n, v);
+}
+
+// Copies n times eight bits, to the byte `to` and those behind it.
+fn copy_bytes(dst: &mut [u8], to: usize, src: &[u8], of: Place, n: usize)
+    requires { ⌜ to + n ≤ length (now dst) ⌝ }
+    requires { ⌜ (of .bit < 8) × (8 * of .byte + of .bit + 8 * n ≤ 8 * length (now src)) ⌝ }
+    ensures { λ _. ⌜ Moved (now (dst .entry)) (8 * to) (now (src .entry)) (8 * of .byte + of .bit) (8 * n) (now (dst .exit)) ⌝ }
+{
+    for k in 0..n {
+        let p = Place {
+            byte: to + k,
+            bit: 0,
+        };
+        let q = Place {
+            byte: of.byte + k,
+            bit: of.bit,
+        };
+        copy_few(dst, p, src, q, 8);
+    }
+}
+
+// Copies `len` bits from a byte's start on, the byte `to`: whole bytes, and the rest.
+fn copy_on(dst: &mut [u8], to: usize, src: &[u8], of: Place, len: usize)
+    requires { ⌜ 8 * to + len ≤ 8 * length (now dst) ⌝ }
+    requires { ⌜ (of .bit < 8) × (8 * of .byte + of .bit + len ≤ 8 * length (now src)) ⌝ }
+    ensures { λ _. ⌜ Moved (now (dst .entry)) (8 * to) (now (src .entry)) (8 * of .byte + of .bit) len (now (dst .exit)) ⌝ }
+{
+    let n = len / 8;
+    copy_bytes(dst, to, src, of, n);
+    let p = Place {
+        byte: to + n,
+        bit: 0,
+    };
+    let q = Place {
+        byte: of.byte + n,
+        bit: of.bit,
+    };
+    copy_few(dst, p, src, q, len % 8);
+}
+
+// Copies `len` bits that lie inside their slices: up to a byte's end, and on from there.
+pub(crate) fn copy_inside(dst: &mut [u8], at: usize, src: &[u8], from: usize, len: usize)
+    requires { ⌜ (at + len ≤ 8 * length (now dst)) × (from + len ≤ 8 * length (now src)) ⌝ }
+    ensures { λ _. ⌜ now (dst .exit) ≡ bitsCopied (now (dst .entry)) at (now (src .entry)) from len ⌝ }
+{
+    let to = places::place_of(at);
+    let of = places::place_of(from);
+    let head = 7 - (to.bit + 7) % 8;
+    if len <= head {
+        copy_few(dst, to, src, of, len);
+        return;
+    }
+    copy_few(dst, to, src, of, head);
+    copy_on(
+        dst,
+        to.byte + (to.bit + 7) / 8,
+        src,
+        places::skip(of, head),
+        len - head,
+    );
+}

@@ -1,0 +1,117 @@
+-- Laws of what a check, an entry that was read and a page that was loaded tell (`specs/Reader.antt`).
+-- In order: a header that was answered; a refusal; the table after a page was loaded.
+-- Assumes nothing.
+use mathlib.Core.List.{List}
+use mathlib.Core.Path.{_≡_, refl, sym, ap, ap₂, subst, _∙_}
+use Prim.Native.Nat.{ℕ, zero, suc, _+_, _*_, _/_, _≤_, _<_}
+use native.Mathlib.Omega.{arith}
+use lib.ListN.{length}
+use Rattle.format.specs.Answer.{Answer, afterwards, unless}
+use Rattle.format.specs.Key.{IsKey}
+use Rattle.format.specs.Normal.{keys}
+use Rattle.format.specs.Page.{Header, checkPage, count, each, entries, entryOf, headerOf, keyOf, pageRefusal}
+use Rattle.format.proofs.AcceptedLaws.{Accepted, accepted-pageRefusal}
+use Rattle.format.proofs.EntryLaws.{AreKeys}
+use Rattle.format.proofs.PageLaws.{keyOf-key, length-entries}
+use Rattle.rows.specs.Rows.{rowSource, rows, withRows}
+use Rattle.rows.proofs.RowsLaws.{length-withRows, rows-withRows, rowSource-withRows}
+use Rattle.node.specs.declared.reader.Header.{Header as Numbers}
+use Rattle.node.specs.Reader.{SizesFit, headerMeant, loaded}
+
+-- ---- a header that was answered
+
+unless-value : {A : Type 0} (n : ℕ) (v w : A) → Answer.Value w ≡ unless n v → n ≡ 0
+unfolding unless
+unless-value zero v w e = refl
+unless-value (suc n) v w e = let z : _≡_ {A = ℕ} 0 1 = cc in absurd (omega arith)
+
+module _ (p : List ℕ) (h : Header) (e : Answer.Value h ≡ checkPage p) where
+  -- none of 1 to 8 holds
+  pub checked-accepted : pageRefusal p ≡ 0
+  unfolding checkPage
+  checked-accepted = unless-value (pageRefusal p) (headerOf p) h e
+
+  pub checked-header : h ≡ headerOf p
+  unfolding checkPage unless
+  checked-header =
+      let f : Answer.Value h ≡ Answer.Value (headerOf p) = e ∙ ap (λ (k : ℕ). unless k (headerOf p)) checked-accepted in
+      cc
+
+pub checked-fits : (p : List ℕ) (h : Numbers) → Answer.Value (headerMeant h) ≡ checkPage p → SizesFit p h
+unfolding headerOf
+checked-fits p h e =
+    let a : Accepted p = accepted-pageRefusal p (checked-accepted p (headerMeant h) e) in
+    let s : headerMeant h ≡ headerOf p = checked-header p (headerMeant h) e in
+    let sn : h .n ≡ count p = ap (λ (x : Header). x .n) s in
+    record {
+      size = a .size;
+      number-is = ap (λ (x : Header). x .number) s;
+      n-is = sn;
+      m-is = ap (λ (x : Header). x .m) s;
+      q-is = ap (λ (x : Header). x .q) s;
+      bits-is = ap (λ (x : Header). x .bits) s;
+      entry = subst (λ (n : ℕ). 1 ≤ n) (sym sn) (a .entry);
+      compresses = subst (λ (n : ℕ). 1 ≤ n) (sym (ap (λ (x : Header). x .m) s)) (a .compresses);
+      no-more = omega (arith, ap (λ (x : Header). x .m) s, sn, a .compresses-no-more);
+      prefix = subst (λ (n : ℕ). n ≤ 256) (sym (ap (λ (x : Header). x .q) s)) (a .prefix);
+      entries-fit = omega (arith, sn, a .entries-fit);
+      fits = a .fits;
+    }
+
+-- ---- a refusal
+
+pub checked-refused : (p : List ℕ) (r : ℕ) → Answer.Refused r ≡ checkPage p → (pageRefusal p ≡ r) × (0 < r)
+unfolding checkPage unless
+checked-refused p r e = go (pageRefusal p) refl
+  where
+    go : (n : ℕ) → pageRefusal p ≡ n → (pageRefusal p ≡ r) × (0 < r)
+    go zero q =
+        let f : Answer.Refused r ≡ Answer.Value (headerOf p) = e ∙ ap (λ (k : ℕ). unless k (headerOf p)) q in
+        let z : _≡_ {A = ℕ} 0 1 = cc in
+        absurd (omega arith)
+    go (suc n) q =
+        let f : Answer.Refused r ≡ Answer.Refused (suc n) = e ∙ ap (λ (k : ℕ). unless k (headerOf p)) q in
+        let s : r ≡ suc n = cc in
+        (q ∙ sym s, omega arith)
+
+-- ---- the table after a page was loaded
+
+areKeys-each : (p : List ℕ) (n : ℕ) (f : ℕ → ℕ) → AreKeys (keys (each n (λ i. entryOf p (f i))))
+unfolding each keys AreKeys entryOf
+areKeys-each p zero f = tt
+areKeys-each p (suc n) f = (keyOf-key p (f 0), areKeys-each p n (λ i. f (suc i)))
+
+pub areKeys-entries : (p : List ℕ) → AreKeys (keys (entries p))
+unfolding entries
+areKeys-entries p = areKeys-each p (count p) (λ i. i)
+
+module _ (p t : List ℕ) where
+  pub loaded-refused : (r : ℕ) → Answer.Refused r ≡ checkPage p → loaded p t ≡ t
+  unfolding loaded afterwards
+  loaded-refused r e = ap (λ (a : Answer Header). afterwards a (λ h. withRows t 0 (entries p)) t) (sym e)
+
+  pub loaded-accepted : (h : Header) → Answer.Value h ≡ checkPage p → loaded p t ≡ withRows t 0 (entries p)
+  unfolding loaded afterwards
+  loaded-accepted h e = ap (λ (a : Answer Header). afterwards a (λ x. withRows t 0 (entries p)) t) (sym e)
+
+  pub length-loaded : length (loaded p t) ≡ length t
+  unfolding loaded afterwards
+  length-loaded = go (checkPage p) refl
+    where
+      go : (a : Answer Header) → checkPage p ≡ a → length (loaded p t) ≡ length t
+      go (Answer.Refused r) e = ap length (loaded-refused r (sym e))
+      go (Answer.Value h) e = ap length (loaded-accepted h (sym e)) ∙ length-withRows t 0 (entries p)
+
+  -- a table with a row for each entry holds the page's entries
+  module _ (h : Header) (e : Answer.Value h ≡ checkPage p) (room : count p ≤ length t / 6) where
+    pub loaded-rows : rows (count p) (loaded p t) ≡ entries p
+    loaded-rows =
+        ap₂ rows (sym (length-entries p)) (loaded-accepted h e)
+        ∙ rows-withRows t (entries p) (areKeys-entries p) (subst (λ (n : ℕ). n ≤ length t / 6) (sym (length-entries p)) room)
+
+    -- each with its position
+    pub loaded-source : (i : ℕ) → i < count p → rowSource (loaded p t) i ≡ i
+    loaded-source i l =
+        let z : 0 + i ≡ i = omega arith in
+        ap₂ rowSource (loaded-accepted h e) (sym z)
+        ∙ rowSource-withRows t 0 (entries p) i (subst (λ (n : ℕ). i < n) (sym (length-entries p)) l) (omega arith) ∙ z

@@ -1,0 +1,3 @@
+-- What the contracts of `rows` cite, as definitions. Read in this order.
+pub mod Keys
+pub mod Rows

@@ -1,0 +1,2 @@
+-- What the contracts of `words` cite, as definitions.
+pub mod Words

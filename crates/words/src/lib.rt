@@ -1,0 +1,157 @@
+// Words of a byte slice: the 64 bits from any bit on, most significant first, and little-endian
+// numbers. Each public function is total: bytes past the end read as zeros, and a word that does not
+// fit is not stored.
+// What they mean: `bits`, `bitsOf`, `fill` and `unle` of format's specs/Bits.antt, and
+// specs/Words.antt.
+ghost use mathlib.Core.Path.{_≡_};
+ghost use mathlib.Core.List.{_++_};
+ghost use Prim.Native.Nat.{_+_, _-_, _*_, _^_, _<_, _≤_};
+ghost use lib.ListN.{length, take, drop, getD};
+ghost use Rattle.format.specs.Bits.{bits, bitsOf, fill, unle};
+ghost use Rattle.words.specs.Words.{withWord};
+
+// a - b, or 0 where that is below zero.
+pub fn over(a: usize, b: usize) -> usize
+    ensures answer { λ r. ⌜ r ≡ a - b ⌝ }
+{
+    if a < b { 0 } else { a - b }
+}
+
+// A byte as a word.
+fn wide(x: u8) -> u64
+    ensures answer { λ r. ⌜ (r ≡ x) × (r < 256) ⌝ }
+{
+    x as u64
+}
+
+// The byte at i.
+pub fn byte_at(s: &[u8], i: usize) -> u64
+    ensures answer { λ r. ⌜ (r ≡ getD (now (s .entry)) i 0) × (r < 256) ⌝ }
+{
+    if i < s.len() { wide(s[i]) } else { 0 }
+}
+
+// The two bytes from i on, least significant first.
+pub fn le_u16(s: &[u8], i: usize) -> usize
+    ensures answer { λ r. ⌜ (r ≡ unle (take 2 (drop i (now (s .entry))))) × (r < 65536) ⌝ }
+{
+    if i < over(s.len(), 1) {
+        return (wide(s[i]) + wide(s[i + 1]) * 0x100) as usize;
+    }
+    byte_at(s, i) as usize
+}
+
+// The four bytes from i on, least significant first.
+pub fn le_u32(s: &[u8], i: usize) -> u64
+    ensures answer { λ r. ⌜ (r ≡ unle (take 4 (drop i (now (s .entry))))) × (r < 2 ^ 32) ⌝ }
+{
+    if i < over(s.len(), 3) {
+        return wide(s[i])
+            + wide(s[i + 1]) * 0x100
+            + wide(s[i + 2]) * 0x10000
+            + wide(s[i + 3]) * 0x1000000;
+    }
+    if i < s.len() {
+        return le_u16(s, i) as u64 + le_u16(s, i + 2) as u64 * 0x10000;
+    }
+    0
+}
+
+// The 32 bits of the four bytes from i on, which are there.
+fn four(s: &[u8], i: usize) -> u64
+    requires { ⌜ i + 4 ≤ length (now s) ⌝ }
+    ensures answer { λ r. ⌜ (bits 32 r ≡ fill 32 (drop (8 * i) (bitsOf (now (s .entry))))) × (r < 2 ^ 32) ⌝ }
+{
+    wide(s[i + 3]) + wide(s[i + 2]) * 0x100 + wide(s[i + 1]) * 0x10000 + wide(s[i]) * 0x1000000
+}
+
+// The 64 bits of the eight bytes from i on, which are there.
+fn eight(s: &[u8], i: usize) -> u64
+    requires { ⌜ i + 8 ≤ length (now s) ⌝ }
+    ensures answer { λ r. ⌜ bits 64 r ≡ fill 64 (drop (8 * i) (bitsOf (now (s .entry)))) ⌝ }
+{
+    four(s, i + 4) + four(s, i) * 0x100000000
+}
+
+// The 64 bits of the eight bytes from i on, near the end.
+fn near_end(s: &[u8], i: usize) -> u64
+    requires { ⌜ i < length (now s) ⌝ }
+    ensures answer { λ r. ⌜ bits 64 r ≡ fill 64 (drop (8 * i) (bitsOf (now (s .entry)))) ⌝ }
+{
+    let mut x: u64 = 0;
+    let mut k: usize = 0;
+    while k < 8 {
+        x = x * 0x100 + byte_at(s, i + k);
+        k += 1;
+    }
+    x
+}
+
+// The 64 bits of the eight bytes from i on.
+pub fn load(s: &[u8], i: usize) -> u64
+    ensures answer { λ r. ⌜ bits 64 r ≡ fill 64 (drop (8 * i) (bitsOf (now (s .entry)))) ⌝ }
+{
+    if i < over(s.len(), 7) {
+        return eight(s, i);
+    }
+    if i < s.len() {
+        return near_end(s, i);
+    }
+    0
+}
+
+// The 64 bits from bit h on of a word and the byte behind it.
+fn shifted(x: u64, y: u64, h: usize) -> u64
+    requires { ⌜ (h < 8) × (y < 256) ⌝ }
+    ensures answer { λ r. ⌜ bits 64 r ≡ take 64 (drop h (bits 64 x ++ bits 8 y)) ⌝ }
+{
+    (x << h) + (y >> (8 - h))
+}
+
+// The 64 bits from bit `start + skip` on; the sum itself need not fit.
+pub fn at_bit(s: &[u8], start: usize, skip: usize) -> u64
+    ensures answer { λ r. ⌜ bits 64 r ≡ fill 64 (drop (start + skip) (bitsOf (now (s .entry)))) ⌝ }
+{
+    let h = start % 8 + skip % 8;
+    let i = start / 8 + skip / 8 + h / 8;
+    if i < over(s.len(), 8) {
+        return shifted(eight(s, i), wide(s[i + 8]), h % 8);
+    }
+    shifted(load(s, i), byte_at(s, i + 8), h % 8)
+}
+
+// The first k bits of x, and zeros; all of x where k is 64 or more.
+pub fn first_bits(x: u64, k: usize) -> u64
+    ensures answer { λ r. ⌜ bits 64 r ≡ fill 64 (take k (bits 64 x)) ⌝ }
+{
+    if 64 <= k {
+        return x;
+    }
+    x - (x << k >> k)
+}
+
+// The first k bits of x, and those of y behind them.
+pub fn joined(x: u64, k: usize, y: u64) -> u64
+    ensures answer { λ r. ⌜ bits 64 r ≡ take 64 (take k (bits 64 x) ++ bits 64 y) ⌝ }
+{
+    if 64 <= k {
+        return x;
+    }
+    x - (x << k >> k) + (y >> k)
+}
+
+// The word x in the eight bytes from i on, most significant first; nothing where they do not fit.
+pub fn store(s: &mut [u8], i: usize, x: u64)
+    ensures written { λ _. ⌜ now (s .exit) ≡ withWord (now (s .entry)) i x ⌝ }
+{
+    if i < over(s.len(), 7) {
+        s[i] = (x / 0x100000000000000 % 0x100) as u8;
+        s[i + 1] = (x / 0x1000000000000 % 0x100) as u8;
+        s[i + 2] = (x / 0x10000000000 % 0x100) as u8;
+        s[i + 3] = (x / 0x100000000 % 0x100) as u8;
+        s[i + 4] = (x / 0x1000000 % 0x100) as u8;
+        s[i + 5] = (x / 0x10000 % 0x100) as u8;
+        s[i + 6] = (x / 0x100 % 0x100) as u8;
+        s[i + 7] = (x % 0x100) as u8;
+    }
+}
