@@ -40,14 +40,6 @@ getD-bitsOf (b ∷ bs) (suc i) j h k =
     ap (λ (x : ℕ). getD (bits 8 b ++ bitsOf bs) x 0) e ∙ getD-append-add (bits 8 b) (bitsOf bs) (8 * i + j) 0
     ∙ getD-bitsOf bs i j (le-of-suc-le-suc h) k
 
--- the lowest bit is the last
-pub bits-snoc : (w n : ℕ) → bits (suc w) n ≡ bits w (n / 2) ++ (n % 2 ∷ [])
-unfolding bits
-bits-snoc zero n = rw div-one
-bits-snoc (suc w) n =
-    let e : n / 2 ^ suc w ≡ n / 2 / 2 ^ w = ap (λ (x : ℕ). n / 2 ^ x) (omega arith) ∙ sym (shr-shr n 1 w) in
-    ap₂ _∷_ (ap (λ (x : ℕ). x % 2) e) (bits-snoc w n)
-
 -- ---- a front and a rest of bytes
 
 module _ (k : ℕ) (l : List ℕ) (h : k ≤ length l) where

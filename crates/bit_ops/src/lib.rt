@@ -4,32 +4,23 @@
 // promises in specs/Calls.antt.
 mod places;
 mod runs;
-mod words;
 
 use format::refusal::Outcome;
 use format::refusal::Refusal;
+use rows::key::Key;
 ghost use mathlib.Core.Path.{_≡_};
 ghost use Prim.Native.Nat.{_≤_};
 ghost use Rattle.format.specs.Bits.{bitsOf};
 ghost use Rattle.format.specs.Key.{sharedBits, separatorLength};
 ghost use Rattle.bit_ops.specs.Calls.{Separated, Copied, Rebuilt};
 
-// Separator length: 256 less the zero bits at the key's end, and 1 for the all-zero key. Looks at
-// 64-bit groups from the last on.
+// Separator length: 256 less the zero bits at the key's end, and 1 for the all-zero key. By the
+// trailing zeros of its 64-bit groups.
 pub fn separator_len(key: &[u8; 32]) -> usize
     ensures answer { λ r. ⌜ r ≡ separatorLength (bitsOf (now (key .entry))) ⌝ }
     ensures bound { λ r. ⌜ r ≤ 256 ⌝ }
 {
-    let s = &key[..];
-    let mut g: usize = 4;
-    while 0 < g {
-        g -= 1;
-        let zeros = u64::trailing_zeros(words::group(s, 8 * g)) as usize;
-        if zeros < 64 {
-            return 64 * g + (64 - zeros);
-        }
-    }
-    1
+    Key::from_bytes(key).separator_len()
 }
 
 // Shared bits of two keys: counted from the front, up to the first in which they differ; 256 if
@@ -53,23 +44,14 @@ pub fn prefix_len(a: &[u8; 32], b: &[u8; 32]) -> usize
     n
 }
 
-// The same by 64-bit groups: the first two groups that differ do so behind the leading zeros of
-// their difference.
+// The same by the leading zeros of the first 64-bit groups that differ.
 pub fn prefix_len_by_words(a: &[u8; 32], b: &[u8; 32]) -> usize
     ensures answer { λ r. ⌜ r ≡ sharedBits (bitsOf (now (a .entry))) (bitsOf (now (b .entry))) ⌝ }
     ensures bound { λ r. ⌜ r ≤ 256 ⌝ }
 {
-    let x = &a[..];
-    let y = &b[..];
-    for g in 0..4usize {
-        let v = words::group(x, 8 * g);
-        let w = words::group(y, 8 * g);
-        let zeros = u64::leading_zeros(v ^ w) as usize;
-        if zeros < 64 {
-            return 64 * g + zeros;
-        }
-    }
-    256
+    let x = Key::from_bytes(a);
+    let y = Key::from_bytes(b);
+    x.prefix_len(y)
 }
 
 // Separate a and b, a < b: `out` becomes the first (shared + 1) bits of b, then zeros. Refused with

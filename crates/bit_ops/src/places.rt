@@ -1,5 +1,4 @@
 // A few bits at a time, as a number: read from anywhere, stored inside one byte.
-use crate::words;
 ghost use mathlib.Core.Path.{_≡_};
 ghost use Prim.Native.Nat.{_+_, _-_, _*_, _/_, _%_, _≤_, _<_, _^_};
 ghost use lib.ListN.{length, take, drop};
@@ -58,15 +57,30 @@ fn replaced(x: u64, s: usize, n: usize, v: u64) -> u64
     x - m * scale + v * scale
 }
 
+// A byte in a wider number.
+fn wide(x: u8) -> u64
+    ensures { λ r. ⌜ (r ≡ x) × (r < 256) ⌝ }
+{
+    x as u64
+}
+
+// Two bytes, the first the more significant.
+fn pair(s: &[u8], at: usize) -> u64
+    requires { ⌜ at + 2 ≤ length (now s) ⌝ }
+    ensures { λ r. ⌜ (bits 16 r ≡ bitsOf (take 2 (drop at (now (s .entry))))) × (r < 2 ^ 16) ⌝ }
+{
+    wide(s[at + 1]) + wide(s[at]) * 0x100
+}
+
 // The byte i and the one behind it, with zero bits for that where there is none.
 fn window(s: &[u8], i: usize) -> u64
     requires { ⌜ i < length (now s) ⌝ }
     ensures { λ r. ⌜ bits 16 r ≡ fill 16 (drop (8 * i) (bitsOf (now (s .entry)))) ⌝ }
 {
     if i + 1 < s.len() {
-        return words::pair(s, i);
+        return pair(s, i);
     }
-    words::wide(s[i]) * 0x100
+    wide(s[i]) * 0x100
 }
 
 // The n bits from a place on as a number.
@@ -83,7 +97,7 @@ pub(crate) fn put_bits(d: &mut [u8], p: Place, n: usize, v: u64)
     ensures { λ _. ⌜ bitsOf (now (d .exit)) ≡ paste (bitsOf (now (d .entry))) (8 * p .byte + p .bit) (bits n v) n ⌝ }
 {
     let i = p.byte;
-    let x = words::wide(d[i]);
+    let x = wide(d[i]);
     let y = replaced(x, 8 - p.bit - n, n, v);
     d[i] = y as u8;
 }

@@ -21,10 +21,9 @@ use Rattle.format.specs.Ranges.{bitsCopied, separate}
 use Rattle.format.specs.declared.refusal.Outcome.the-variants.{Done, Refused}
 use Rattle.format.specs.declared.refusal.Refusal.the-variants.{NotBelow}
 use Rattle.format.proofs.BitsLaws.{length-bitsOf}
-use Rattle.format.proofs.KeyLaws.{below-irreflexive}
+use Rattle.format.proofs.KeyLaws.{below-irreflexive, sharedBits-all}
 use Rattle.bit_ops.specs.Calls.{Separated}
 use Rattle.bit_ops.proofs.RunLaws.{paste-zeros}
-use Rattle.bit_ops.proofs.SharedLaws.{sharedBits-all}
 
 -- the order is that of the bits behind those that are shared
 below-shared : (a b : List ℕ) → length a ≡ length b
@@ -61,7 +60,7 @@ module _ (a b out : List ℕ) where
 
     equal : n ≡ 256 → Separated a b out (Refused NotBelow) out
     equal e =
-        let s : bitsOf a ≡ bitsOf b = sharedBits-all (bitsOf a) (bitsOf b) lengths (omega (arith, length-bitsOf a)) in
+        let s : bitsOf a ≡ bitsOf b = sharedBits-all (bitsOf a) (bitsOf b) (omega (arith, length-bitsOf a)) (omega (arith, length-bitsOf a, lengths)) in
         not-below (ap (λ (l : List ℕ). below l (bitsOf b)) s ∙ below-irreflexive (bitsOf b))
 
     -- v and w are the bits in which they differ

@@ -1,9 +1,9 @@
--- `bit_ops::words::pair` meets its contract: because the bits of two bytes are those of a number that has them as
+-- `bit_ops::places::pair` meets its contract: because the bits of two bytes are those of a number that has them as
 -- digits.
 -- Assumes nothing.
 use borrow.Author.Needs.{needs}
-use Rattle.bit_ops.proofs.words.pair.Statement.{statement}
-use Rattle.bit_ops.proofs.words.pair.Tie as tie
+use Rattle.bit_ops.proofs.places.pair.Statement.{statement}
+use Rattle.bit_ops.proofs.places.pair.Tie as tie
 use mathlib.Core.List.{List}
 use mathlib.Core.Path.{_≡_}
 use Prim.Native.Nat.{ℕ, _+_, _*_, _≤_, _<_}
