@@ -107,7 +107,8 @@ module _ (p t : List ℕ) where
     pub loaded-rows : rows (count p) (loaded p t) ≡ entries p
     loaded-rows =
         ap₂ rows (sym (length-entries p)) (loaded-accepted h e)
-        ∙ rows-withRows t (entries p) (areKeys-entries p) (subst (λ (n : ℕ). n ≤ length t / 6) (sym (length-entries p)) room)
+        ∙ rows-withRows t (entries p) (areKeys-entries p)
+        (subst (λ (n : ℕ). n ≤ length t / 6) (sym (length-entries p)) room)
 
     -- each with its position
     pub loaded-source : (i : ℕ) → i < count p → rowSource (loaded p t) i ≡ i

@@ -1,5 +1,6 @@
 -- Laws of the tests of a page: what a check answers where the first that holds is known, and where none holds.
--- In order: a test at every place (`some`); refusals 1 to 5, by the numbers that the code has; 6 to 8; what an answer tells.
+-- In order: a test at every place (`some`); where separators start; refusals 1 to 5, by the numbers that the code
+-- has; 6 to 8.
 -- Not here: a page that none of them refuses (format's `AcceptedLaws`).
 -- Assumes nothing.
 use mathlib.Core.Bool.{Bool, true, false, not, cond, _||_}
@@ -30,7 +31,7 @@ use Rattle.format.specs.Page.{
   startOf,
 }
 use Rattle.format.proofs.AnswerLaws.{or-false}
-use Rattle.format.proofs.AcceptedLaws.{Accepted, accepted-pageRefusal}
+use Rattle.format.proofs.PageLaws.{startOf-zero, startOf-suc}
 use Rattle.node.specs.declared.reader.Header.{Header as Numbers}
 use Rattle.node.specs.Reader.{SizesFit, falling, headerMeant, misfit, unordered}
 
@@ -53,6 +54,14 @@ some-at (suc n) f i h e =
     (λ (q : i ≡ n). ap (λ (b : Bool). b || some n f) (ap f (sym q) ∙ e))
     (λ (l : i < n). or-true (f n) (some n f) (some-at n f i l e))
     (eq-or-lt-of-le (le-of-suc-le-suc h))
+
+-- ---- where separators start
+
+pub start-first : (p : List ℕ) → 0 ≡ startOf p 0
+start-first p = sym (startOf-zero p)
+
+pub start-next : (p : List ℕ) (i e : ℕ) → e ≡ endOf p i → e ≡ startOf p (i + 1)
+start-next p i e q = q ∙ sym (ap (startOf p) (add-one i) ∙ startOf-suc p i)
 
 -- ---- the tests, one behind the other
 
@@ -128,7 +137,8 @@ module _ (p : List ℕ) (n : ℕ) (size : length p ≡ 4096) (en : n ≡ unle (t
 
     pub refuse-3-none : m ≡ 0 → Answer.Refused 3 ≡ checkPage p
     refuse-3-none z =
-        refuse-3 (ap (λ (b : Bool). b || ltb (count p) (compressed p)) (eq-eqb (compressed p) 0 (sym compressed-is ∙ z)))
+        refuse-3
+        (ap (λ (b : Bool). b || ltb (count p) (compressed p)) (eq-eqb (compressed p) 0 (sym compressed-is ∙ z)))
 
     pub refuse-3-more : n < m → Answer.Refused 3 ≡ checkPage p
     refuse-3-more l =
@@ -155,7 +165,8 @@ module _ (p : List ℕ) (n : ℕ) (size : length p ≡ 4096) (en : n ≡ unle (t
       module _ (prefix : q ≤ 256) where
         pass-4 : pageRefusal p ≡ after4 p
         pass-4 =
-            pass-3 ∙ passes (ltb 256 (prefixLength p)) 4 (after4 p) (le-ltb 256 (prefixLength p) (omega (arith, prefix-is)))
+            pass-3 ∙ passes (ltb 256 (prefixLength p)) 4 (after4 p)
+            (le-ltb 256 (prefixLength p) (omega (arith, prefix-is)))
 
         refuse-5 : test5 p ≡ true → Answer.Refused 5 ≡ checkPage p
         refuse-5 t = refused p 4 (pass-4 ∙ holds (test5 p) 5 (after5 p) t)
@@ -181,10 +192,12 @@ module _ (p : List ℕ) (n : ℕ) (size : length p ≡ 4096) (en : n ≡ unle (t
           pub refuse-5-body : 4086 < 6 * n + ((q + e) + 7) / 8 → Answer.Refused 5 ≡ checkPage p
           refuse-5-body l =
               let k : 4086 < bodyBytes (count p) (prefixLength p) (startOf p (count p)) = omega (arith, body-is) in
-              refuse-5 (or-true (ltb 4086 (6 * count p)) (ltb 4086 (bodyBytes (count p) (prefixLength p) (startOf p (count p))))
+              refuse-5
+              (or-true (ltb 4086 (6 * count p)) (ltb 4086 (bodyBytes (count p) (prefixLength p) (startOf p (count p))))
               (lt-ltb 4086 (bodyBytes (count p) (prefixLength p) (startOf p (count p))) k))
 
-          pub sizes-fit : (number : ℕ) → 6 * n ≤ 4086 → 6 * n + ((q + e) + 7) / 8 ≤ 4086 → number ≡ unle (take 4 (drop 0 p))
+          pub sizes-fit : (number : ℕ) → 6 * n ≤ 4086 → 6 * n + ((q + e) + 7) / 8 ≤ 4086
+              → number ≡ unle (take 4 (drop 0 p))
               → SizesFit p (record { number = number; n = n; m = m; q = q; bits = q + e })
           unfolding pageNumber
           sizes-fit number h l en =
@@ -223,7 +236,8 @@ module _ (p : List ℕ) (h : Numbers) (f : SizesFit p h) where
       ∙ passes (ltb 256 (prefixLength p)) 4 (after4 p) (le-ltb 256 (prefixLength p) c4)
       ∙ passes (test5 p) 5 (after5 p)
       (or-false (ltb 4086 (6 * count p)) (ltb 4086 (bodyBytes (count p) (prefixLength p) (startOf p (count p))))
-      (le-ltb 4086 (6 * count p) c5) (le-ltb 4086 (bodyBytes (count p) (prefixLength p) (startOf p (count p))) (f .fits)))
+      (le-ltb 4086 (6 * count p) c5)
+      (le-ltb 4086 (bodyBytes (count p) (prefixLength p) (startOf p (count p))) (f .fits)))
 
   module _ (r6 : Bool) (e6 : r6 ≡ falling p (h .n)) where
     told-6 : falling p (count p) ≡ r6

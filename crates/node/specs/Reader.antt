@@ -1,5 +1,7 @@
--- What the checking reader answers and writes, and what its parts tell each other. Document 01, "The page", and the refusals 1 to 8 and 16.
--- In order: headerMeant checkedAnswer · entryAnswer pointerRead keyBytes · loaded · falling misfit unordered · SizesFit Sizing.
+-- What the checking reader answers and writes, and what its parts tell each other. Document 01, "The page", and the
+-- refusals 1 to 8 and 16.
+-- In order: headerMeant checkedAnswer · entryAnswer pointerRead keyBytes · loaded · falling misfit unordered ·
+-- SizesFit Sizing.
 -- Assumes nothing.
 use mathlib.Core.Path.{_≡_}
 use Prim.Native.Nat.{ℕ, suc, _+_, _-_, _*_, _≤_}
@@ -57,8 +59,8 @@ unfoldable pub keyBytes : Entry → List ℕ
 unfolding pack
 keyBytes e = pack 32 (e .key)
 
--- A table after a page was loaded: the page's entries in its first rows, each with its position, as far as it has rows; after a refusal, what
--- it held before.
+-- A table after a page was loaded: the page's entries in its first rows, each with its position, as far as it has
+-- rows; after a refusal, what it held before.
 unfoldable pub loaded : List ℕ → List ℕ → List ℕ
 unfolding afterwards checkPage withRows entries
 loaded p t = afterwards (checkPage p) (λ h. withRows t 0 (entries p)) t

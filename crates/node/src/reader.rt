@@ -150,14 +150,14 @@ fn prefix(page: &[u8], h: Header) -> Key
     Key::zero().with_bits(0, page, start, h.q)
 }
 
-// The key of entry i, out of the prefix and its separator.
-fn get_key(page: &[u8], h: Header, prefix: Key, i: usize) -> Key
+// The key of entry i, out of the prefix and its separator, which starts and ends at two offsets.
+fn get_key(page: &[u8], h: Header, prefix: Key, i: usize, start: usize, end: usize) -> Key
     requires { ⌜ SizesFit (now page) h
-        × (keyBits prefix ≡ fill 256 (take (prefixLength (now page)) (body (now page)))) ⌝ }
+        × (keyBits prefix ≡ fill 256 (take (prefixLength (now page)) (body (now page))))
+        × (start ≡ startOf (now page) i) × (start < 65536) × (end ≡ endOf (now page) i) ⌝ }
     ensures answer { λ r. ⌜ keyBits r ≡ keyOf (now (page .entry)) i ⌝ }
 {
-    let start = start_offset(page, i);
-    let len = words::over(cell(page, i), start);
+    let len = words::over(end, start);
     let bit = 8 * (BranchNodeBuilder::HEADER_SIZE + 2 * h.n) + h.q + start;
     prefix.with_bits(prefix_bits(h, i), page, bit, len)
 }
@@ -169,13 +169,16 @@ fn keys_unordered(page: &[u8], h: Header) -> bool
 {
     let n = h.n;
     let shared = prefix(page, h);
-    let mut before = get_key(page, h, shared, 0);
+    let mut start = cell(page, 0);
+    let mut before = get_key(page, h, shared, 0, 0, start);
     let mut i: usize = 1;
     while i < n {
-        let key = get_key(page, h, shared, i);
+        let end = cell(page, i);
+        let key = get_key(page, h, shared, i, start, end);
         if !before.less(key) {
             return true;
         }
+        start = end;
         before = key;
         i += 1;
     }
@@ -243,8 +246,8 @@ pub fn check(page: &[u8]) -> Checked
     }
 }
 
-// Entry `index` of a page: its pointer, and its key into `key_out`. Refused with 1 to 8, then with 16
-// where the page has no such entry; `key_out` is then as it was.
+// Entry `index` of a page: its pointer, and its key into `key_out`. Refused with 1 to 8, then with
+// 16 where the page has no such entry; `key_out` is then as it was.
 pub fn entry(page: &[u8], index: usize, key_out: &mut [u8; 32]) -> EntryRead
     ensures answer { λ r. ⌜ entryAnswer r ≡ pointerRead (readEntry (now (page .entry)) index) ⌝ }
     ensures written { λ _. ⌜ now («key_out» .exit)
@@ -256,7 +259,8 @@ pub fn entry(page: &[u8], index: usize, key_out: &mut [u8; 32]) -> EntryRead
             if h.n <= index {
                 return EntryRead::Refused(Refusal::IndexPastEnd);
             }
-            let key = get_key(page, h, prefix(page, h), index);
+            let start = start_offset(page, index);
+            let key = get_key(page, h, prefix(page, h), index, start, cell(page, index));
             key.to_bytes(key_out);
             EntryRead::Pointer(node_pointer(page, h, index))
         }
@@ -266,14 +270,18 @@ pub fn entry(page: &[u8], index: usize, key_out: &mut [u8; 32]) -> EntryRead
 // All entries into the rows of a table, with their positions.
 fn fill_rows(page: &[u8], h: Header, t: &mut [u64])
     requires { ⌜ SizesFit (now page) h ⌝ }
-    ensures written { λ _. ⌜ now (t .exit) ≡ withRows (now (t .entry)) 0 (entries (now (page .entry))) ⌝ }
+    ensures written { λ _. ⌜ now (t .exit)
+        ≡ withRows (now (t .entry)) 0 (entries (now (page .entry))) ⌝ }
 {
     let n = h.n;
     let shared = prefix(page, h);
+    let mut start: usize = 0;
     let mut i: usize = 0;
     while i < n {
-        let key = get_key(page, h, shared, i);
+        let end = cell(page, i);
+        let key = get_key(page, h, shared, i, start, end);
         table::set_row(t, i, key, node_pointer(page, h, i), i as u64);
+        start = end;
         i += 1;
     }
 }

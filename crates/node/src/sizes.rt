@@ -1,5 +1,6 @@
-// The size formulas, on 64-bit numbers. Only the exact result counts: it is answered, or refused with
-// 19 where it is below zero or does not fit 64 bits. What they mean: format's specs/Sizes.antt.
+// The size formulas, on 64-bit numbers. Only the exact result counts: it is answered, or refused
+// with 19 where it is below zero or does not fit 64 bits. What they mean: format's
+// specs/Sizes.antt, and `sizeAnswer` of specs/Sizes.antt.
 ghost use mathlib.Core.Path.{_≡_};
 ghost use Prim.Native.Nat.{_+_, _*_, min};
 ghost use Rattle.format.specs.Sizes.{difference, bodySize, wholeFromStored, storedFromWhole};
@@ -71,7 +72,8 @@ pub fn uncompressed_separator_range_size(
     n: u64,
     first_len: u64,
 ) -> Size
-    ensures answer { λ r. ⌜ sizeAnswer r ≡ wholeFromStored «prefix_len» «compressed_lengths» n «first_len» ⌝ }
+    ensures answer { λ r. ⌜ sizeAnswer r
+        ≡ wholeFromStored «prefix_len» «compressed_lengths» n «first_len» ⌝ }
 {
     let kept = least(prefix_len, first_len);
     if n == 0 {
@@ -94,7 +96,8 @@ pub fn compressed_separator_range_size(
     pre_compression_size_sum: u64,
     prefix_len: u64,
 ) -> Size
-    ensures answer { λ r. ⌜ sizeAnswer r ≡ storedFromWhole «first_separator_length» «prefix_compressed_items»
+    ensures answer { λ r. ⌜ sizeAnswer r
+        ≡ storedFromWhole «first_separator_length» «prefix_compressed_items»
         «pre_compression_size_sum» «prefix_len» ⌝ }
 {
     if prefix_compressed_items == 0 {

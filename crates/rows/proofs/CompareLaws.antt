@@ -43,7 +43,8 @@ lastSet-zeros (x ∷ xs) ys e = ap (reach x) (lastSet-zeros xs ys e)
 pub lastSet-more : (xs ys : List ℕ) (m : ℕ) → lastSet ys ≡ suc m → lastSet (xs ++ ys) ≡ suc (length xs + m)
 unfolding lastSet reach
 lastSet-more [] ys m e = e ∙ ap suc (sym (zero-add m))
-lastSet-more (x ∷ xs) ys m e = ap (reach x) (lastSet-more xs ys m e) ∙ ap (λ (n : ℕ). suc n) (sym (suc-add (length xs) m))
+lastSet-more (x ∷ xs) ys m e =
+    ap (reach x) (lastSet-more xs ys m e) ∙ ap (λ (n : ℕ). suc n) (sym (suc-add (length xs) m))
 
 lastSet-digit : (d : ℕ) → lastSet (d ∷ []) ≡ d
 unfolding lastSet reach
@@ -113,8 +114,10 @@ sharedBits-differ (suc w) a b xs ys ha hb d =
 
     go : Dec (a / 2 ≡ b / 2)
         → ((a / 2 ≡ b / 2 → ⊥)
-        → sharedBits (bits w (a / 2) ++ (a % 2 ∷ xs)) (bits w (b / 2) ++ (b % 2 ∷ ys)) ≡ leadingZeros w (bitXor (a / 2) (b / 2)))
-        → sharedBits (bits w (a / 2) ++ (a % 2 ∷ xs)) (bits w (b / 2) ++ (b % 2 ∷ ys)) ≡ leadingZeros (suc w) (bitXor a b)
+        → sharedBits (bits w (a / 2) ++ (a % 2 ∷ xs)) (bits w (b / 2) ++ (b % 2 ∷ ys))
+        ≡ leadingZeros w (bitXor (a / 2) (b / 2)))
+        → sharedBits (bits w (a / 2) ++ (a % 2 ∷ xs)) (bits w (b / 2) ++ (b % 2 ∷ ys)) ≡ leadingZeros (suc w)
+        (bitXor a b)
     go (yes e) ih =
         let z : bitXor (a / 2) (b / 2) ≡ 0 = ap (λ (u : ℕ). bitXor (a / 2) u) (sym e) ∙ xor-self (a / 2) in
         let n : a % 2 ≡ b % 2 → ⊥ = λ f. d (omega arith) in
@@ -146,7 +149,8 @@ rest-lt w x y h e = omega (arith, split x w, split y w, ap (λ (k : ℕ). k * 2 
 below-low : (w x y : ℕ) (xs ys : List ℕ)
     → below (bits w x ++ xs) (bits w y ++ ys) ≡ below (bits w (x % 2 ^ w) ++ xs) (bits w (y % 2 ^ w) ++ ys)
 below-low w x y xs ys =
-    ap₂ (λ (p q : List ℕ). below (p ++ xs) (q ++ ys)) (sym (bits-mod w w x (omega arith))) (sym (bits-mod w w y (omega arith)))
+    ap₂ (λ (p q : List ℕ). below (p ++ xs) (q ++ ys)) (sym (bits-mod w w x (omega arith)))
+    (sym (bits-mod w w y (omega arith)))
 
 below-bits-less : (w x y : ℕ) (xs ys : List ℕ) → x < 2 ^ w → y < 2 ^ w → x < y
     → below (bits w x ++ xs) (bits w y ++ ys) ≡ true

@@ -31,7 +31,8 @@ module _ (k : Key) where
   allBelow-keyBits : AllBelow 2 (keyBits k)
   allBelow-keyBits =
       subst (AllBelow 2) (sym keyBits-words)
-      (allBelow-append 2 (bits 64 (k .a)) (bits 64 (k .b) ++ (bits 64 (k .c) ++ bits 64 (k .d))) (allBelow-bits 64 (k .a))
+      (allBelow-append 2 (bits 64 (k .a)) (bits 64 (k .b) ++ (bits 64 (k .c) ++ bits 64 (k .d)))
+      (allBelow-bits 64 (k .a))
       (allBelow-append 2 (bits 64 (k .b)) (bits 64 (k .c) ++ bits 64 (k .d)) (allBelow-bits 64 (k .b))
       (allBelow-append 2 (bits 64 (k .c)) (bits 64 (k .d)) (allBelow-bits 64 (k .c)) (allBelow-bits 64 (k .d)))))
 
@@ -57,7 +58,8 @@ module _ (k : Key) where
 
   front : (x : ℕ) (xs ys : List ℕ) → x < 2 ^ 64 → ys ≡ bits 64 x ++ xs → value (take 64 ys) ≡ x
   front x xs ys h e =
-      ap (λ (l : List ℕ). value (take 64 l)) e ∙ ap value (take-at (bits 64 x) xs 64 (length-bits 64 x)) ∙ value-of-bits 64 x h
+      ap (λ (l : List ℕ). value (take 64 l)) e ∙ ap value (take-at (bits 64 x) xs 64 (length-bits 64 x))
+      ∙ value-of-bits 64 x h
 
   pub word-a : k .a < 2 ^ 64 → value (take 64 (keyBits k)) ≡ k .a
   word-a h = front (k .a) (bits 64 (k .b) ++ (bits 64 (k .c) ++ bits 64 (k .d))) (keyBits k) h keyBits-words

@@ -1,6 +1,6 @@
 -- Laws of rows of a table (`specs/Rows.antt`).
--- In order: `each`; a row stored (`withRow`), what is then read in it and what in others; the entries of n rows (`rows`); rows stored one
--- behind the other (`withRows`).
+-- In order: `each`; a row stored (`withRow`), what is then read in it and what in others; the entries of n rows
+-- (`rows`); rows stored one behind the other (`withRows`).
 -- Assumes nothing.
 use mathlib.Core.Bool.{Bool, true, false, cond}
 use mathlib.Core.List.{List, [], _∷_, _++_, append-assoc}
@@ -53,7 +53,8 @@ words-key k y =
   where
     part : (n : ℕ) → n + 64 ≤ 256 → bits 64 (value (take 64 (drop n k))) ≡ take 64 (drop n k)
     part n h =
-        let l : length (take 64 (drop n k)) ≡ 64 = length-take-le 64 (drop n k) (omega (arith, length-drop n k, y .size)) in
+        let l : length (take 64 (drop n k)) ≡ 64 =
+        length-take-le 64 (drop n k) (omega (arith, length-drop n k, y .size)) in
         ap (λ (w : ℕ). bits w (value (take 64 (drop n k)))) (sym l)
         ∙ bits-value (take 64 (drop n k)) (allBelow-take 2 64 (drop n k) (allBelow-drop 2 n k (y .bits)))
 
@@ -91,7 +92,8 @@ module _ (t : List ℕ) (i : ℕ) (e : Entry) (s : ℕ) where
   withRow-at : i < length t / 6 → (j : ℕ) → j < 6 → getD (withRow t i e s) (6 * i + j) 0 ≡ getD (rowWords e s) j 0
   withRow-at h j l =
       let a : 6 * i + j ≡ length (take (6 * i) t) + j = omega (arith, front h) in
-      ap (λ (u : List ℕ). getD u (6 * i + j) 0) (withRow-in h ∙ append-assoc (take (6 * i) t) (rowWords e s) (drop (6 * i + 6) t))
+      ap (λ (u : List ℕ). getD u (6 * i + j) 0)
+      (withRow-in h ∙ append-assoc (take (6 * i) t) (rowWords e s) (drop (6 * i + 6) t))
       ∙ ap (λ (n : ℕ). getD (take (6 * i) t ++ (rowWords e s ++ drop (6 * i + 6) t)) n 0) a
       ∙ getD-append-add (take (6 * i) t) (rowWords e s ++ drop (6 * i + 6) t) j 0
       ∙ List·getD-append (rowWords e s) (drop (6 * i + 6) t) 0 j (omega (arith, length-six))
@@ -100,7 +102,8 @@ module _ (t : List ℕ) (i : ℕ) (e : Entry) (s : ℕ) where
   withRow-past : (x : ℕ) → (6 * i ≤ x → x < 6 * i + 6 → ⊥) → getD (withRow t i e s) x 0 ≡ getD t x 0
   withRow-past x n = cases (λ (l : List ℕ). getD l x 0 ≡ getD t x 0) (λ h. go h (decLe (6 * i) x)) refl
     where
-      go : i < length t / 6 → Dec (6 * i ≤ x) → getD (take (6 * i) t ++ rowWords e s ++ drop (6 * i + 6) t) x 0 ≡ getD t x 0
+      go : i < length t / 6 → Dec (6 * i ≤ x) → getD (take (6 * i) t ++ rowWords e s ++ drop (6 * i + 6) t) x 0
+          ≡ getD t x 0
       go h (no m) =
           let l : x < 6 * i = omega arith in
           ap (λ (u : List ℕ). getD u x 0) (append-assoc (take (6 * i) t) (rowWords e s) (drop (6 * i + 6) t))
@@ -192,7 +195,8 @@ pub rows-more : (t : List ℕ) (n : ℕ) (e : Entry) (s : ℕ) → IsKey (e .key
     → rows (suc n) (withRow t n e s) ≡ rows n t ++ (e ∷ [])
 rows-more t n e s y h =
     rows-snoc n (withRow t n e s)
-    ∙ ap₂ (λ (l : List Entry) (x : Entry). l ++ (x ∷ [])) (rows-kept n t n e s (omega arith)) (rowEntry-same t n e s y h)
+    ∙ ap₂ (λ (l : List Entry) (x : Entry). l ++ (x ∷ [])) (rows-kept n t n e s (omega arith))
+    (rowEntry-same t n e s y h)
 
 -- ---- rows stored one behind the other
 
@@ -208,16 +212,19 @@ unfolding withRows
 withRows-snoc t i [] e = ap (λ (n : ℕ). withRow t n e n) (sym (add-zero i))
 withRows-snoc t i (x ∷ es) e =
     let q : suc i + length es ≡ i + suc (length es) = omega arith in
-    withRows-snoc (withRow t i x i) (suc i) es e ∙ ap (λ (n : ℕ). withRow (withRows (withRow t i x i) (suc i) es) n e n) q
+    withRows-snoc (withRow t i x i) (suc i) es e
+    ∙ ap (λ (n : ℕ). withRow (withRows (withRow t i x i) (suc i) es) n e n) q
 
 -- rows before the first of them are as they were
-pub rowEntry-before : (t : List ℕ) (i : ℕ) (es : List Entry) (j : ℕ) → j < i → rowEntry (withRows t i es) j ≡ rowEntry t j
+pub rowEntry-before : (t : List ℕ) (i : ℕ) (es : List Entry) (j : ℕ) → j < i
+    → rowEntry (withRows t i es) j ≡ rowEntry t j
 unfolding withRows
 rowEntry-before t i [] j h = refl
 rowEntry-before t i (e ∷ es) j h =
     rowEntry-before (withRow t i e i) (suc i) es j (omega arith) ∙ rowEntry-other t i e i j (λ q. omega arith)
 
-pub rowSource-before : (t : List ℕ) (i : ℕ) (es : List Entry) (j : ℕ) → j < i → rowSource (withRows t i es) j ≡ rowSource t j
+pub rowSource-before : (t : List ℕ) (i : ℕ) (es : List Entry) (j : ℕ) → j < i
+    → rowSource (withRows t i es) j ≡ rowSource t j
 unfolding withRows
 rowSource-before t i [] j h = refl
 rowSource-before t i (e ∷ es) j h =

@@ -19,7 +19,8 @@ use Rattle.format.specs.Page.{Entry, each}
 unfoldable pub rowKey : List ℕ → ℕ → List ℕ
 unfolding bits
 rowKey t i =
-    bits 64 (getD t (6 * i) 0) ++ bits 64 (getD t (6 * i + 1) 0) ++ bits 64 (getD t (6 * i + 2) 0) ++ bits 64 (getD t (6 * i + 3) 0)
+    bits 64 (getD t (6 * i) 0) ++ bits 64 (getD t (6 * i + 1) 0) ++ bits 64 (getD t (6 * i + 2) 0) ++ bits 64
+    (getD t (6 * i + 3) 0)
 
 -- Its pointer.
 unfoldable pub rowPointer : List ℕ → ℕ → ℕ
@@ -56,7 +57,8 @@ unfoldable pub withRow : List ℕ → ℕ → Entry → ℕ → List ℕ
 unfolding rowWords
 withRow t i e s = cond (ltb i (length t / 6)) (paste t (6 * i) (rowWords e s) 6) t
 
--- t with entries in the rows from i on, each with its row's number as its position; those past the last row are left out.
+-- t with entries in the rows from i on, each with its row's number as its position; those past the last row are left
+-- out.
 unfoldable pub withRows : List ℕ → ℕ → List Entry → List ℕ
 unfolding withRow
 withRows t i [] = t

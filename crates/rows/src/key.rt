@@ -113,8 +113,20 @@ impl Key {
         ensures answer { λ r. ⌜ keyBits r ≡ fill 256 (take q (keyBits self)
             ++ take len (drop start (bitsOf (now (s .entry))))) ⌝ }
     {
+        let a = word_of(self.a, 0, q, s, start, len);
+        // What the first word holds is all, as for most keys of a page.
+        if q <= 64 {
+            if len <= 64 - q {
+                return Key {
+                    a,
+                    b: 0,
+                    c: 0,
+                    d: 0,
+                };
+            }
+        }
         Key {
-            a: word_of(self.a, 0, q, s, start, len),
+            a,
             b: word_of(self.b, 64, q, s, start, len),
             c: word_of(self.c, 128, q, s, start, len),
             d: word_of(self.d, 192, q, s, start, len),
@@ -127,10 +139,10 @@ impl Key {
     {
         let s = &bytes[..];
         Key {
-            a: words::load(s, 0),
-            b: words::load(s, 8),
-            c: words::load(s, 16),
-            d: words::load(s, 24),
+            a: words::at_bit(s, 0, 0),
+            b: words::at_bit(s, 64, 0),
+            c: words::at_bit(s, 128, 0),
+            d: words::at_bit(s, 192, 0),
         }
     }
 

@@ -1,6 +1,7 @@
 -- Laws of windows: some bits of a list with zeros behind them, and the numbers that bytes of a slice spell.
--- In order: `take` and `drop` of any length; `fill` of parts; the bytes of a slice, 0 past its end; the numbers that they spell, most significant
--- byte first (`Spells`) and least significant first (`unle`); the first bits of a word, and others behind them.
+-- In order: `take` and `drop` of any length; `fill` of parts; the bytes of a slice, 0 past its end; the numbers that
+-- they spell, most significant byte first (`Spells`) and least significant first (`unle`); the first bits of a word,
+-- and others behind them.
 -- Not here: words that are stored (`WordsLaws`); those of format's `BitsLaws`.
 -- Assumes nothing.
 use mathlib.Core.List.{List, [], _∷_, _++_, append-nil}
@@ -141,7 +142,8 @@ unfolding bits
 spells-none s i = record { small = omega arith; same = sym (fill-zero (drop (8 * i) (bitsOf s))) }
 
 -- those of j bytes, and k that follow
-pub spells-cat : (s : List ℕ) (i j k x y : ℕ) → Spells s i j x → Spells s (i + j) k y → Spells s i (j + k) (x * 2 ^ (8 * k) + y)
+pub spells-cat : (s : List ℕ) (i j k x y : ℕ) → Spells s i j x → Spells s (i + j) k y
+    → Spells s i (j + k) (x * 2 ^ (8 * k) + y)
 spells-cat s i j k x y a b =
     let e : 8 * j + 8 * k ≡ 8 * (j + k) = omega arith in
     let f : 8 * (i + j) ≡ 8 * i + 8 * j = omega arith in
@@ -161,7 +163,8 @@ pub spells-byte : (s : List ℕ) (i b : ℕ) → b ≡ getD s i 0 → b < 256 �
 spells-byte s i b e h = record { small = h; same = ap (bits 8) e ∙ bits-byte i s }
 
 -- one byte more
-pub spells-more : (s : List ℕ) (i k x b : ℕ) → Spells s i k x → b ≡ getD s (i + k) 0 → b < 256 → Spells s i (k + 1) (x * 256 + b)
+pub spells-more : (s : List ℕ) (i k x b : ℕ) → Spells s i k x → b ≡ getD s (i + k) 0 → b < 256
+    → Spells s i (k + 1) (x * 256 + b)
 spells-more s i k x b a e h = spells-cat s i k 1 x b a (spells-byte s (i + k) b e h)
 
 -- ---- little-endian numbers
@@ -180,7 +183,8 @@ unle-step w i s = go (decLe (suc i) (length s))
         ∙ ap (λ (k : ℕ). getD s i 0 + 256 * unle (take w (drop k s))) (sym (add-one i))
     go (no h) =
         let k : length s ≤ i = omega arith in
-        let z : unle (take (suc w) (drop i s)) ≡ 0 = ap (λ (l : List ℕ). unle (take (suc w) l)) (drop-of-length-le s k) in
+        let z : unle (take (suc w) (drop i s)) ≡ 0 =
+        ap (λ (l : List ℕ). unle (take (suc w) l)) (drop-of-length-le s k) in
         let y : unle (take w (drop (i + 1) s)) ≡ 0 =
         ap (λ (l : List ℕ). unle (take w l)) (drop-of-length-le s {i = i + 1} (omega arith)) ∙ unle-empty w in
         omega (arith, z, y, byte-past s i k)
@@ -192,7 +196,8 @@ unle-none l = refl
 pub unle-two : (s : List ℕ) (i : ℕ) → unle (take 2 (drop i s)) ≡ getD s i 0 + 256 * getD s (i + 1) 0
 unle-two s i = omega (arith, unle-step 1 i s, unle-step 0 (i + 1) s, unle-none (drop ((i + 1) + 1) s))
 
-pub unle-four : (s : List ℕ) (i : ℕ) → unle (take 4 (drop i s)) ≡ unle (take 2 (drop i s)) + 65536 * unle (take 2 (drop (i + 2) s))
+pub unle-four : (s : List ℕ) (i : ℕ)
+    → unle (take 4 (drop i s)) ≡ unle (take 2 (drop i s)) + 65536 * unle (take 2 (drop (i + 2) s))
 unle-four s i =
     let e : (i + 1) + 1 ≡ i + 2 = omega arith in
     omega (
@@ -258,7 +263,8 @@ joined-all x k y h =
     ∙ take-at (bits 64 x) (bits 64 y) 64 (length-bits 64 x))
 
 -- and nothing behind them
-pub first-bits : (x k : ℕ) → k < 64 → x < 2 ^ 64 → bits 64 (x - (x * 2 ^ k % 2 ^ 64) / 2 ^ k) ≡ fill 64 (take k (bits 64 x))
+pub first-bits : (x k : ℕ) → k < 64 → x < 2 ^ 64 → bits 64 (x - (x * 2 ^ k % 2 ^ 64) / 2 ^ k)
+    ≡ fill 64 (take k (bits 64 x))
 first-bits x k h l =
     let k′ : k ≤ 64 = omega arith in
     let e : 64 ≡ k + (64 - k) = omega arith in

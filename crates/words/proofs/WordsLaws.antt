@@ -37,7 +37,8 @@ module _ (s : List ℕ) (i x : ℕ) where
   unfolding withWord
   withWord-in h =
       ap (λ (t : Bool). cond t (paste s i (wordBytes x) 8) s) (le-leb (i + 8) (length s) h)
-      ∙ ap (λ (w : List ℕ). take i s ++ w ++ drop (i + 8) s) (take-all 8 (wordBytes x) (omega (arith, length-wordBytes x)))
+      ∙ ap (λ (w : List ℕ). take i s ++ w ++ drop (i + 8) s)
+      (take-all 8 (wordBytes x) (omega (arith, length-wordBytes x)))
 
   pub withWord-out : length s < i + 8 → withWord s i x ≡ s
   unfolding withWord
@@ -54,9 +55,11 @@ module _ (s : List ℕ) (i x : ℕ) where
       go false q = ap (λ (t : Bool). length (cond t (paste s i (wordBytes x) 8) s)) q
 
 -- behind a part of length i
-pub withWord-behind : (p q : List ℕ) (i x : ℕ) → length p ≡ i → 8 ≤ length q → withWord (p ++ q) i x ≡ (p ++ wordBytes x) ++ drop 8 q
+pub withWord-behind : (p q : List ℕ) (i x : ℕ) → length p ≡ i → 8 ≤ length q
+    → withWord (p ++ q) i x ≡ (p ++ wordBytes x) ++ drop 8 q
 withWord-behind p q i x e h =
     let l : i + 8 ≤ length (p ++ q) = omega (arith, length-append p q) in
     let f : i + 8 ≡ length p + 8 = omega arith in
     withWord-in (p ++ q) i x l
-    ∙ ap₂ (λ (u v : List ℕ). (u ++ wordBytes x) ++ v) (take-at p q i e) (ap (λ (k : ℕ). drop k (p ++ q)) f ∙ drop-append-add p q 8)
+    ∙ ap₂ (λ (u v : List ℕ). (u ++ wordBytes x) ++ v) (take-at p q i e)
+    (ap (λ (k : ℕ). drop k (p ++ q)) f ∙ drop-append-add p q 8)

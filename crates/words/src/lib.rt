@@ -1,6 +1,6 @@
 // Words of a byte slice: the 64 bits from any bit on, most significant first, and little-endian
-// numbers. Each public function is total: bytes past the end read as zeros, and a word that does not
-// fit is not stored.
+// numbers. Each public function is total: bytes past the end read as zeros, and a word that does
+// not fit is not stored.
 // What they mean: `bits`, `bitsOf`, `fill` and `unle` of format's specs/Bits.antt, and
 // specs/Words.antt.
 ghost use mathlib.Core.Path.{_≡_};
@@ -60,7 +60,8 @@ pub fn le_u32(s: &[u8], i: usize) -> u64
 // The 32 bits of the four bytes from i on, which are there.
 fn four(s: &[u8], i: usize) -> u64
     requires { ⌜ i + 4 ≤ length (now s) ⌝ }
-    ensures answer { λ r. ⌜ (bits 32 r ≡ fill 32 (drop (8 * i) (bitsOf (now (s .entry))))) × (r < 2 ^ 32) ⌝ }
+    ensures answer { λ r. ⌜ (bits 32 r ≡ fill 32 (drop (8 * i) (bitsOf (now (s .entry)))))
+        × (r < 2 ^ 32) ⌝ }
 {
     wide(s[i + 3]) + wide(s[i + 2]) * 0x100 + wide(s[i + 1]) * 0x10000 + wide(s[i]) * 0x1000000
 }
@@ -75,7 +76,7 @@ fn eight(s: &[u8], i: usize) -> u64
 
 // The 64 bits of the eight bytes from i on, near the end.
 fn near_end(s: &[u8], i: usize) -> u64
-    requires { ⌜ i < length (now s) ⌝ }
+    requires { ⌜ i < 2 ^ 63 ⌝ }
     ensures answer { λ r. ⌜ bits 64 r ≡ fill 64 (drop (8 * i) (bitsOf (now (s .entry)))) ⌝ }
 {
     let mut x: u64 = 0;
@@ -85,19 +86,6 @@ fn near_end(s: &[u8], i: usize) -> u64
         k += 1;
     }
     x
-}
-
-// The 64 bits of the eight bytes from i on.
-pub fn load(s: &[u8], i: usize) -> u64
-    ensures answer { λ r. ⌜ bits 64 r ≡ fill 64 (drop (8 * i) (bitsOf (now (s .entry)))) ⌝ }
-{
-    if i < over(s.len(), 7) {
-        return eight(s, i);
-    }
-    if i < s.len() {
-        return near_end(s, i);
-    }
-    0
 }
 
 // The 64 bits from bit h on of a word and the byte behind it.
@@ -117,7 +105,7 @@ pub fn at_bit(s: &[u8], start: usize, skip: usize) -> u64
     if i < over(s.len(), 8) {
         return shifted(eight(s, i), wide(s[i + 8]), h % 8);
     }
-    shifted(load(s, i), byte_at(s, i + 8), h % 8)
+    shifted(near_end(s, i), byte_at(s, i + 8), h % 8)
 }
 
 // The first k bits of x, and zeros; all of x where k is 64 or more.
@@ -130,14 +118,14 @@ pub fn first_bits(x: u64, k: usize) -> u64
     x - (x << k >> k)
 }
 
-// The first k bits of x, and those of y behind them.
-pub fn joined(x: u64, k: usize, y: u64) -> u64
-    ensures answer { λ r. ⌜ bits 64 r ≡ take 64 (take k (bits 64 x) ++ bits 64 y) ⌝ }
+// The first j bits of x, and those of y behind them; all of x where j is 64 or more.
+pub fn joined(x: u64, j: usize, y: u64) -> u64
+    ensures answer { λ r. ⌜ bits 64 r ≡ take 64 (take j (bits 64 x) ++ bits 64 y) ⌝ }
 {
-    if 64 <= k {
+    if 64 <= j {
         return x;
     }
-    x - (x << k >> k) + (y >> k)
+    x - (x << j >> j) + (y >> j)
 }
 
 // The word x in the eight bytes from i on, most significant first; nothing where they do not fit.

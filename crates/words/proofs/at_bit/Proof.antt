@@ -1,5 +1,5 @@
--- `words::at_bit` meets its contract: bit h % 8 of byte i is bit `start + skip` of the slice, and nine bytes from there on
--- hold the 64 bits.
+-- `words::at_bit` meets its contract: bit h % 8 of byte i is bit `start + skip` of the slice, and nine bytes from
+-- there on hold the 64 bits.
 -- Assumes nothing.
 use mathlib.Core.List.{List, _++_}
 use mathlib.Core.Path.{_≡_, sym, ap, ap₂, _∙_}
@@ -65,8 +65,8 @@ shifted-requires c κs = search needs
 returns : tie.Need-returns
 returns c = search (needs, laws)
 
-load-requires : tie.Need-load-requires
-load-requires c κs = search needs
+near-end-requires : tie.Need-near-end-requires
+near-end-requires c κs = search needs
 
 add-byte-at : tie.Need-add-byte-at
 add-byte-at c = search needs
@@ -94,7 +94,7 @@ at-bit-spec =
     wide-requires
     shifted-requires
     returns
-    load-requires
+    near-end-requires
     add-byte-at
     byte-at-requires
     shifted-requires-2

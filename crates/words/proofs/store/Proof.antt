@@ -1,4 +1,5 @@
--- `words::store` meets its contract: eight stores in a row are a run (`sets-eq`), and the bytes stored are those of the word.
+-- `words::store` meets its contract: eight stores in a row are a run (`sets-eq`), and the bytes stored are those of
+-- the word.
 -- Assumes nothing.
 use mathlib.Core.List.{List, [], _∷_, _++_, append-nil}
 use mathlib.Core.Path.{_≡_, sym, ap, ap₂, _∙_}
@@ -67,8 +68,10 @@ are-bytes x = packed (stored x) (bits 64 x) (allBelow-stored x) (bitsOf-stored x
 
 module _ (s : List ℕ) (i r x : ℕ) (er : r ≡ length s - 7) where
   in-room : i < r
-      → set (set (set (set (set (set (set (set s i (x / 72057594037927936 % 256)) (i + 1) (x / 281474976710656 % 256)) (i + 2)
-      (x / 1099511627776 % 256)) (i + 3) (x / 4294967296 % 256)) (i + 4) (x / 16777216 % 256)) (i + 5) (x / 65536 % 256)) (i + 6)
+      → set
+      (set (set (set (set (set (set (set s i (x / 72057594037927936 % 256)) (i + 1) (x / 281474976710656 % 256)) (i + 2)
+      (x / 1099511627776 % 256)) (i + 3) (x / 4294967296 % 256)) (i + 4) (x / 16777216 % 256)) (i + 5)
+      (x / 65536 % 256)) (i + 6)
       (x / 256 % 256)) (i + 7) (x % 256)
       ≡ withWord s i x
   unfolding stored

@@ -1,11 +1,10 @@
--- `node::reader::bits_misfit` meets its contract. The loop's invariant: each of the first i entries fits a key, and `before` is
--- where the next separator starts. The measure is what is left of n.
+-- `node::reader::bits_misfit` meets its contract. The loop's invariant: each of the first i entries fits a key, and
+-- `before` is where the next separator starts. The measure is what is left of n.
 -- Assumes nothing.
 use mathlib.Core.Bool.{Bool, true, false, cond, _||_}
 use mathlib.Core.List.{List}
 use mathlib.Core.Path.{_≡_, refl, sym, ap, ap₂, _∙_}
 use Prim.Native.Nat.{ℕ, _+_, _-_, _≤_, _<_}
-use native.Mathlib.Numerals.{add-one}
 use native.Mathlib.Omega.{arith}
 use borrow.Author.Tests.{lt-ltb, le-ltb, eq-eqb, ne-eqb}
 use lib.Dec.{eqb, ltb}
@@ -14,7 +13,7 @@ use Rattle.format.specs.Page.{endOf, startOf, storedLength, entryBits}
 use Rattle.format.proofs.AnswerLaws.{or-false}
 use Rattle.node.specs.declared.reader.Header.{Header}
 use Rattle.node.specs.Reader.{SizesFit, misfit}
-use Rattle.node.proofs.TestsLaws.{some-more, some-at, or-true}
+use Rattle.node.proofs.TestsLaws.{start-next, some-more, some-at, or-true}
 use borrow.Author.Needs.{needs}
 use Rattle.node.proofs.reader.bits_misfit.Statement.{statement}
 use Rattle.node.proofs.reader.bits_misfit.Tie as tie
@@ -41,7 +40,7 @@ module _ (p : List ℕ) (h : Header) (i b e x y : ℕ) (s : SizesFit p h) (f : F
         some-more i (λ j. eqb (entryBits p j) 0 || ltb 256 (entryBits p j))
         (or-false (eqb (entryBits p i) 0) (ltb 256 (entryBits p i)) (ne-eqb (entryBits p i) 0 (λ w. z (bits-are ∙ w)))
         (le-ltb 256 (entryBits p i) (omega (arith, bits-are)))) (f .none);
-    start = ee ∙ sym (ap (startOf p) (add-one i));
+    start = start-next p i e ee;
   }
 
   found-none : x + y ≡ 0 → i < h .n → true ≡ misfit p (h .n)
@@ -54,7 +53,8 @@ module _ (p : List ℕ) (h : Header) (i b e x y : ℕ) (s : SizesFit p h) (f : F
   unfolding misfit
   found-many z l =
       sym (some-at (h .n) (λ j. eqb (entryBits p j) 0 || ltb 256 (entryBits p j)) i l
-      (or-true (eqb (entryBits p i) 0) (ltb 256 (entryBits p i)) (lt-ltb 256 (entryBits p i) (omega (arith, bits-are)))))
+      (or-true (eqb (entryBits p i) 0) (ltb 256 (entryBits p i))
+      (lt-ltb 256 (entryBits p i) (omega (arith, bits-are)))))
 
 end : (p : List ℕ) (n i b : ℕ) → Fitting p i b → i ≤ n → n ≤ i → false ≡ misfit p n
 end p n i b r h h′ =

@@ -1,5 +1,5 @@
--- `node::reader::check` meets its contract: refusals 1 to 5 by `sized`, then 6, 7 and 8 in their turn, and the header where none
--- holds.
+-- `node::reader::check` meets its contract: refusals 1 to 5 by `sized`, then 6, 7 and 8 in their turn, and the header
+-- where none holds.
 -- Assumes nothing.
 use mathlib.Core.List.{List}
 use mathlib.Core.Path.{_≡_, subst}
@@ -17,7 +17,8 @@ use borrow.Author.Needs.{needs}
 use Rattle.node.proofs.reader.check.Statement.{statement}
 use Rattle.node.proofs.reader.check.Tie as tie
 
-too-soon : (p : List ℕ) (c : Checked) (x : Refusal) → c ≡ Refused x → Sizing p c → Answer.Refused (refusalNumber x) ≡ checkPage p
+too-soon : (p : List ℕ) (c : Checked) (x : Refusal) → c ≡ Refused x → Sizing p c
+    → Answer.Refused (refusalNumber x) ≡ checkPage p
 too-soon p c x e s = subst (Sizing p) e s
 
 fits : (p : List ℕ) (c : Checked) (h : Header) → c ≡ Page h → Sizing p c → SizesFit p h

@@ -1,5 +1,5 @@
--- `node::reader::entry` meets its contract: a refused page, an index past its end, and an entry of an accepted page, each as
--- `readEntry` has it.
+-- `node::reader::entry` meets its contract: a refused page, an index past its end, and an entry of an accepted page,
+-- each as `readEntry` has it.
 -- Assumes nothing.
 use mathlib.Core.List.{List}
 use mathlib.Core.Path.{_≡_, sym, ap, _∙_}
@@ -10,7 +10,13 @@ use Rattle.format.specs.Bits.{pack}
 use Rattle.format.specs.Page.{Entry, checkPage, count, entryOf, keyOf, pageRefusal, pointerOf, readEntry}
 use Rattle.format.specs.Refusals.{refusalNumber}
 use Rattle.format.specs.declared.refusal.Refusal.{Refusal}
-use Rattle.format.proofs.AcceptedLaws.{Accepted, accepted-pageRefusal, readEntry-accepted, readEntry-outside, readEntry-refused}
+use Rattle.format.proofs.AcceptedLaws.{
+  Accepted,
+  accepted-pageRefusal,
+  readEntry-accepted,
+  readEntry-outside,
+  readEntry-refused,
+}
 use Rattle.rows.specs.declared.key.Key.{Key}
 use Rattle.rows.specs.Keys.{keyBits}
 use Rattle.node.specs.declared.reader.Header.{Header}
@@ -88,8 +94,14 @@ enum-known-h c = search needs
 returns : tie.Need-returns
 returns c = search (needs, laws)
 
+start-offset-requires : tie.Need-start-offset-requires
+start-offset-requires c κs = search needs
+
 prefix-requires : tie.Need-prefix-requires
 prefix-requires c κs = search (needs, laws)
+
+cell-requires : tie.Need-cell-requires
+cell-requires c κs = search needs
 
 get-key-requires : tie.Need-get-key-requires
 get-key-requires c κs = search (needs, laws)
@@ -114,7 +126,9 @@ entry-spec =
     enum-known-r
     enum-known-h
     returns
+    start-offset-requires
     prefix-requires
+    cell-requires
     get-key-requires
     to-bytes-requires
     node-pointer-requires

@@ -1,5 +1,5 @@
--- `node::reader::fill_rows` meets its contract. The loop's invariant: the table has the first i entries in its rows. The measure
--- is what is left of n.
+-- `node::reader::fill_rows` meets its contract. The loop's invariant: the table has the first i entries in its rows,
+-- and the next separator starts at `start`. The measure is what is left of n.
 -- Assumes nothing.
 use mathlib.Core.List.{List, [], _∷_, _++_}
 use mathlib.Core.Path.{_≡_, refl, sym, ap, ap₂, _∙_}
@@ -7,7 +7,7 @@ use Prim.Native.Nat.{ℕ, suc, _+_, _-_, _≤_, _<_}
 use native.Mathlib.Numerals.{add-one}
 use native.Mathlib.Omega.{arith}
 use lib.ListN.{length}
-use Rattle.format.specs.Page.{Entry, count, each, entries, entryOf, keyOf, pointerOf}
+use Rattle.format.specs.Page.{Entry, count, each, entries, entryOf, keyOf, pointerOf, startOf}
 use Rattle.format.proofs.EntryLaws.{length-each}
 use Rattle.rows.specs.declared.key.Key.{Key}
 use Rattle.rows.specs.Keys.{keyBits}
@@ -15,6 +15,7 @@ use Rattle.rows.specs.Rows.{withRow, withRows}
 use Rattle.rows.proofs.RowsLaws.{each-snoc, length-withRows, withRows-snoc}
 use Rattle.node.specs.declared.reader.Header.{Header}
 use Rattle.node.specs.Reader.{SizesFit}
+use Rattle.node.proofs.TestsLaws.{start-first, start-next}
 use borrow.Author.Needs.{needs}
 use Rattle.node.proofs.reader.fill_rows.Statement.{statement}
 use Rattle.node.proofs.reader.fill_rows.Tie as tie
@@ -43,25 +44,30 @@ kept : (p t₀ t : List ℕ) (i : ℕ) → Filled p t₀ i t → length t ≡ le
 unfolding Filled
 kept p t₀ t i f = ap length f ∙ length-withRows t₀ 0 (each i (entryOf p))
 
-end : (p t₀ t : List ℕ) (h : Header) (i : ℕ) → SizesFit p h → Filled p t₀ i t → i ≤ h .n → h .n ≤ i → t ≡ withRows t₀ 0 (entries p)
+end : (p t₀ t : List ℕ) (h : Header) (i : ℕ) → SizesFit p h → Filled p t₀ i t → i ≤ h .n → h .n ≤ i
+    → t ≡ withRows t₀ 0 (entries p)
 unfolding Filled entries
 end p t₀ t h i s f l l′ =
     let e : i ≡ count p = omega (arith, s .n-is) in
     f ∙ ap (λ (j : ℕ). withRows t₀ 0 (each j (entryOf p))) e
 
-ruleset laws = (begin, more, kept, end)
+ruleset laws = (start-first, start-next, begin, more, kept, end)
 
 abbrev Inv-loop : tie.InvT-loop
-Inv-loop page h t₀ n shared i₀ t i = (i ≤ n) × Filled page t₀ i t
+Inv-loop page h t₀ n shared start₀ i₀ t start i =
+    (i ≤ n) × (start < 65536) × (start ≡ startOf page i) × Filled page t₀ i t
 
 abbrev μ-loop : tie.MeasureT-loop
-μ-loop page h t₀ n shared i₀ t i = n - i
+μ-loop page h t₀ n shared start₀ i₀ t start i = n - i
 
 prefix-requires : tie.Need-prefix-requires Inv-loop μ-loop
 prefix-requires c κs = search (needs, laws)
 
 loop-holds : tie.Need-loop-holds Inv-loop μ-loop
 loop-holds c = search (needs, laws)
+
+cell-requires : tie.Need-cell-requires Inv-loop μ-loop
+cell-requires c κs = search (needs, laws)
 
 get-key-requires : tie.Need-get-key-requires Inv-loop μ-loop
 get-key-requires c κs = search (needs, laws)
@@ -79,7 +85,14 @@ loop-less : tie.Need-loop-less Inv-loop μ-loop
 loop-less c = search (needs, laws)
 
 loop-again : tie.Need-loop-again Inv-loop μ-loop
-loop-again c = (search needs, more _ _ _ _ _ _ _ (c .before .before .before .before .before .before .before .loop .inv .1) (c .before .before .before .before .before .get-key .ensures) (c .before .before .before .node-pointer .ensures) (c .before .before .set-row .ensures))
+loop-again c = (
+  search needs,
+  search needs,
+  search (needs, start-next),
+  more _ _ _ _ _ _ _ (c .before .before .before .before .before .before .before .before .loop .inv .3)
+      (c .before .before .before .before .before .get-key .ensures) (c .before .before .before .node-pointer .ensures)
+      (c .before .before .set-row .ensures),
+)
 
 same-length : tie.Need-same-length Inv-loop μ-loop
 same-length c = search (needs, laws)
@@ -95,6 +108,7 @@ fill-rows-spec =
     μ-loop
     prefix-requires
     loop-holds
+    cell-requires
     get-key-requires
     node-pointer-requires
     set-row-requires

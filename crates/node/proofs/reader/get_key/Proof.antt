@@ -1,5 +1,5 @@
--- `node::reader::get_key` meets its contract: of the key that holds the prefix, q bits if i < m and none else; then the bits of
--- the separator, from where it starts in the page.
+-- `node::reader::get_key` meets its contract: of the key that holds the prefix, q bits if i < m and none else; then
+-- the bits of the separator, from where it starts in the page.
 -- Assumes nothing.
 use mathlib.Core.Bool.{Bool, true, false, cond}
 use mathlib.Core.List.{List, [], _++_}
@@ -10,7 +10,18 @@ use lib.Dec.{ltb}
 use lib.ListN.{length, take, drop}
 use lib.Seq.{drop-drop, length-take-le}
 use Rattle.format.specs.Bits.{bitsOf, fill}
-use Rattle.format.specs.Page.{body, compressed, count, endOf, keyOf, prefixLength, prefixOf, separatorOf, startOf, storedLength}
+use Rattle.format.specs.Page.{
+  body,
+  compressed,
+  count,
+  endOf,
+  keyOf,
+  prefixLength,
+  prefixOf,
+  separatorOf,
+  startOf,
+  storedLength,
+}
 use Rattle.format.proofs.BitsLaws.{fill-exact, take-fill}
 use Rattle.format.proofs.PageLaws.{length-body}
 use Rattle.words.proofs.WindowLaws.{drop-bitsOf}
@@ -24,7 +35,8 @@ use Rattle.node.proofs.reader.get_key.Tie as tie
 
 module _ (p : List ℕ) (h : Header) (f : SizesFit p h) where
   -- the first q bits of a key that holds the prefix
-  prefix-bits : (k : Key) → keyBits k ≡ fill 256 (take (prefixLength p) (body p)) → take (h .q) (keyBits k) ≡ take (prefixLength p) (body p)
+  prefix-bits : (k : Key) → keyBits k ≡ fill 256 (take (prefixLength p) (body p))
+      → take (h .q) (keyBits k) ≡ take (prefixLength p) (body p)
   prefix-bits k e =
       let q : prefixLength p ≤ 256 = omega (arith, f .q-is, f .prefix) in
       let b : prefixLength p ≤ length (body p) = omega (arith, length-body p, f .n-is, f .entries-fit, f .size) in
@@ -32,7 +44,8 @@ module _ (p : List ℕ) (h : Header) (f : SizesFit p h) where
       ap₂ take (f .q-is) e ∙ take-fill (prefixLength p) 256 (take (prefixLength p) (body p)) q
       ∙ fill-exact (take (prefixLength p) (body p)) (prefixLength p) t
 
-  prefix-is : (i x : ℕ) (k : Key) → keyBits k ≡ fill 256 (take (prefixLength p) (body p)) → x ≡ cond (ltb i (h .m)) (h .q) 0
+  prefix-is : (i x : ℕ) (k : Key) → keyBits k ≡ fill 256 (take (prefixLength p) (body p))
+      → x ≡ cond (ltb i (h .m)) (h .q) 0
       → take x (keyBits k) ≡ prefixOf p i
   unfolding prefixOf
   prefix-is i x k ek ex = go (ltb i (h .m)) refl
@@ -52,10 +65,12 @@ module _ (p : List ℕ) (h : Header) (f : SizesFit p h) where
       let a : 8 * (10 + 2 * h .n) + h .q + start ≡ 8 * (10 + 2 * count p) + (prefixLength p + startOf p i) =
       omega (arith, f .n-is, f .q-is) in
       ap₂ (λ (n k : ℕ). take n (drop k (bitsOf p))) (el ∙ ap₂ _-_ ee es) a
-      ∙ ap (take (endOf p i - startOf p i)) (sym (drop-drop (prefixLength p + startOf p i) (8 * (10 + 2 * count p)) (bitsOf p))
+      ∙ ap (take (endOf p i - startOf p i))
+      (sym (drop-drop (prefixLength p + startOf p i) (8 * (10 + 2 * count p)) (bitsOf p))
       ∙ ap (drop (prefixLength p + startOf p i)) (drop-bitsOf (10 + 2 * count p) p))
 
-  read : (i start end len x : ℕ) (k r : Key) → keyBits k ≡ fill 256 (take (prefixLength p) (body p)) → start ≡ startOf p i
+  read : (i start end len x : ℕ) (k r : Key) → keyBits k ≡ fill 256 (take (prefixLength p) (body p))
+      → start ≡ startOf p i
       → end ≡ endOf p i → len ≡ end - start → x ≡ cond (ltb i (h .m)) (h .q) 0
       → keyBits r ≡ fill 256 (take x (keyBits k) ++ take len (drop (8 * (10 + 2 * h .n) + h .q + start) (bitsOf p)))
       → keyBits r ≡ keyOf p i
@@ -64,12 +79,6 @@ module _ (p : List ℕ) (h : Header) (f : SizesFit p h) where
       er ∙ ap₂ (λ (u v : List ℕ). fill 256 (u ++ v)) (prefix-is i x k ek ex) (separator-is i start end len es ee el)
 
 ruleset laws = (read)
-
-start-offset-requires : tie.Need-start-offset-requires
-start-offset-requires c κs = search needs
-
-cell-requires : tie.Need-cell-requires
-cell-requires c κs = search needs
 
 over-requires : tie.Need-over-requires
 over-requires c κs = search needs
@@ -102,8 +111,6 @@ pub get-key-spec : {M : Type 1} → statement M
 get-key-spec =
     tie.close
     (tie.spec
-    start-offset-requires
-    cell-requires
     over-requires
     mul-bit
     add-bit

@@ -1,5 +1,5 @@
--- `node::reader::keys_unordered` meets its contract. The loop's invariant: the first i keys rise, and `before` is the last of
--- them. The measure is what is left of n.
+-- `node::reader::keys_unordered` meets its contract. The loop's invariant: the first i keys rise, `before` is the
+-- last of them, and the next separator starts at `start`. The measure is what is left of n.
 -- Assumes nothing.
 use mathlib.Core.Bool.{Bool, true, false, not}
 use mathlib.Core.List.{List}
@@ -8,11 +8,11 @@ use Prim.Native.Nat.{ℕ, suc, _+_, _-_, _≤_, _<_}
 use native.Mathlib.Omega.{arith}
 use Rattle.format.specs.Answer.{some}
 use Rattle.format.specs.Key.{below}
-use Rattle.format.specs.Page.{keyOf}
+use Rattle.format.specs.Page.{endOf, keyOf, startOf}
 use Rattle.rows.specs.declared.key.Key.{Key}
 use Rattle.rows.specs.Keys.{keyBits}
 use Rattle.node.specs.Reader.{unordered}
-use Rattle.node.proofs.TestsLaws.{some-more, some-at}
+use Rattle.node.proofs.TestsLaws.{some-more, some-at, start-first, start-next}
 use borrow.Author.Needs.{needs}
 use Rattle.node.proofs.reader.keys_unordered.Statement.{statement}
 use Rattle.node.proofs.reader.keys_unordered.Tie as tie
@@ -21,6 +21,9 @@ record Rising (p : List ℕ) (i : ℕ) (k : Key) : Type 0 where
   none : unordered p i ≡ false
   last : keyBits k ≡ keyOf p (i - 1)
   some-key : 1 ≤ i
+
+start-second : (p : List ℕ) (e : ℕ) → e ≡ endOf p 0 → e ≡ startOf p 1
+start-second p e q = start-next p 0 e q
 
 begin : (p : List ℕ) (k : Key) → keyBits k ≡ keyOf p 0 → Rising p 1 k
 unfolding unordered some
@@ -49,29 +52,38 @@ module _ (p : List ℕ) (i : ℕ) (k l : Key) (r : Bool) (so : Rising p i k) (e 
   stop : (n : ℕ) → i < n → not r ≡ true → true ≡ unordered p n
   unfolding unordered
   stop n h z =
-      sym (some-at (n - 1) (λ j. not (below (keyOf p j) (keyOf p (suc j)))) (i - 1) (omega (arith, so .some-key)) (next ∙ z))
+      sym
+      (some-at (n - 1) (λ j. not (below (keyOf p j) (keyOf p (suc j)))) (i - 1) (omega (arith, so .some-key))
+      (next ∙ z))
 
 end : (p : List ℕ) (n i : ℕ) (k : Key) → Rising p i k → i ≤ n → n ≤ i → false ≡ unordered p n
 end p n i k so h h′ =
     let e : i ≡ n = omega arith in
     sym (sym (ap (unordered p) e) ∙ so .none)
 
-ruleset laws = (begin, more, stop, end)
+ruleset laws = (start-first, start-second, start-next, begin, more, stop, end)
 
 abbrev Inv-loop : tie.InvT-loop
-Inv-loop page h n shared before₀ i₀ before i = (i ≤ n) × Rising page i before
+Inv-loop page h n shared start₀ before₀ i₀ start before i =
+    (i ≤ n) × (start < 65536) × (start ≡ startOf page i) × Rising page i before
 
 abbrev μ-loop : tie.MeasureT-loop
-μ-loop page h n shared before₀ i₀ before i = n - i
+μ-loop page h n shared start₀ before₀ i₀ start before i = n - i
 
 prefix-requires : tie.Need-prefix-requires Inv-loop μ-loop
 prefix-requires c κs = search (needs, laws)
+
+cell-requires : tie.Need-cell-requires Inv-loop μ-loop
+cell-requires c κs = search (needs, laws)
 
 get-key-requires : tie.Need-get-key-requires Inv-loop μ-loop
 get-key-requires c κs = search (needs, laws)
 
 loop-holds : tie.Need-loop-holds Inv-loop μ-loop
 loop-holds c = search (needs, laws)
+
+cell-requires-2 : tie.Need-cell-requires-2 Inv-loop μ-loop
+cell-requires-2 c κs = search (needs, laws)
 
 get-key-requires-2 : tie.Need-get-key-requires-2 Inv-loop μ-loop
 get-key-requires-2 c κs = search (needs, laws)
@@ -101,8 +113,10 @@ keys-unordered-spec =
     Inv-loop
     μ-loop
     prefix-requires
+    cell-requires
     get-key-requires
     loop-holds
+    cell-requires-2
     get-key-requires-2
     less-requires
     returns

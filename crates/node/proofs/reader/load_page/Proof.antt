@@ -1,4 +1,5 @@
--- `node::reader::load_page` meets its contract: a refused page leaves the table as it was, and of an accepted one the rows are filled.
+-- `node::reader::load_page` meets its contract: a refused page leaves the table as it was, and of an accepted one the
+-- rows are filled.
 -- Assumes nothing.
 use mathlib.Core.List.{List}
 use mathlib.Core.Path.{_≡_, sym, ap, _∙_}

@@ -12,7 +12,8 @@ use borrow.Author.Needs.{needs}
 use Rattle.node.proofs.reader.node_pointer.Statement.{statement}
 use Rattle.node.proofs.reader.node_pointer.Tie as tie
 
-read : (p : List ℕ) (h : Header) (i r : ℕ) → SizesFit p h → r ≡ unle (take 4 (drop ((4096 - 4 * h .n) + 4 * i) p)) → r ≡ pointerOf p i
+read : (p : List ℕ) (h : Header) (i r : ℕ) → SizesFit p h → r ≡ unle (take 4 (drop ((4096 - 4 * h .n) + 4 * i) p))
+    → r ≡ pointerOf p i
 unfolding pointerOf
 read p h i r f e = e ∙ ap (λ (n : ℕ). unle (take 4 (drop ((4096 - 4 * n) + 4 * i) p))) (f .n-is)
 

@@ -1,18 +1,17 @@
--- `node::reader::offsets_fall` meets its contract. The loop's invariant: none of the first i end offsets falls, and `before` is
--- where the next separator starts. The measure is what is left of n.
+-- `node::reader::offsets_fall` meets its contract. The loop's invariant: none of the first i end offsets falls, and
+-- `before` is where the next separator starts. The measure is what is left of n.
 -- Assumes nothing.
 use mathlib.Core.Bool.{true, false}
 use mathlib.Core.List.{List}
 use mathlib.Core.Path.{_≡_, refl, sym, ap, _∙_}
 use Prim.Native.Nat.{ℕ, _+_, _-_, _≤_, _<_}
-use native.Mathlib.Numerals.{add-one}
 use native.Mathlib.Omega.{arith}
 use borrow.Author.Tests.{lt-ltb, le-ltb}
 use lib.Dec.{ltb}
 use Rattle.format.specs.Answer.{some}
 use Rattle.format.specs.Page.{endOf, startOf}
 use Rattle.node.specs.Reader.{falling}
-use Rattle.node.proofs.TestsLaws.{some-more, some-at}
+use Rattle.node.proofs.TestsLaws.{start-next, some-more, some-at}
 use borrow.Author.Needs.{needs}
 use Rattle.node.proofs.reader.offsets_fall.Statement.{statement}
 use Rattle.node.proofs.reader.offsets_fall.Tie as tie
@@ -28,14 +27,17 @@ begin p = record { none = refl; start = refl }
 more : (p : List ℕ) (i b e : ℕ) → Rising p i b → e ≡ endOf p i → b ≤ e → Rising p (i + 1) e
 unfolding falling startOf
 more p i b e r q h = record {
-  none = some-more i (λ j. ltb (endOf p j) (startOf p j)) (le-ltb (endOf p i) (startOf p i) (omega (arith, r .start))) (r .none);
-  start = q ∙ sym (ap (startOf p) (add-one i));
+  none =
+      some-more i (λ j. ltb (endOf p j) (startOf p j)) (le-ltb (endOf p i) (startOf p i) (omega (arith, r .start)))
+      (r .none);
+  start = start-next p i e q;
 }
 
 found : (p : List ℕ) (n i b e : ℕ) → Rising p i b → e ≡ endOf p i → e < b → i < n → true ≡ falling p n
 unfolding falling
 found p n i b e r q h l =
-    sym (some-at n (λ j. ltb (endOf p j) (startOf p j)) i l (lt-ltb (endOf p i) (startOf p i) (omega (arith, r .start))))
+    sym
+    (some-at n (λ j. ltb (endOf p j) (startOf p j)) i l (lt-ltb (endOf p i) (startOf p i) (omega (arith, r .start))))
 
 end : (p : List ℕ) (n i b : ℕ) → Rising p i b → i ≤ n → n ≤ i → false ≡ falling p n
 end p n i b r h h′ =

@@ -1,7 +1,16 @@
--- `node::reader::sized` meets its contract: each test in its turn (`refuse-1` to `refuse-5-body`), and the header where none
--- holds (`sizes-fit`).
+-- `node::reader::sized` meets its contract: each test in its turn (`refuse-1` to `refuse-5-body`), and the header
+-- where none holds (`sizes-fit`).
 -- Assumes nothing.
-use Rattle.node.proofs.TestsLaws.{refuse-1, refuse-2, refuse-3-none, refuse-3-more, refuse-4, refuse-5-many, refuse-5-body, sizes-fit}
+use Rattle.node.proofs.TestsLaws.{
+  refuse-1,
+  refuse-2,
+  refuse-3-none,
+  refuse-3-more,
+  refuse-4,
+  refuse-5-many,
+  refuse-5-body,
+  sizes-fit,
+}
 use borrow.Author.Needs.{needs}
 use Rattle.node.proofs.reader.sized.Statement.{statement}
 use Rattle.node.proofs.reader.sized.Tie as tie

@@ -1,5 +1,5 @@
--- `node::sizes::body_size` meets its contract: the bits are rounded up to bytes with no sum that wraps, and what is left of 64
--- bits is compared with them.
+-- `node::sizes::body_size` meets its contract: the bits are rounded up to bytes with no sum that wraps, and what is
+-- left of 64 bits is compared with them.
 -- Assumes nothing.
 use mathlib.Core.Path.{_≡_}
 use Prim.Native.Nat.{ℕ, _+_, _-_, _*_, _/_, _%_, _≤_, _<_}
@@ -31,7 +31,8 @@ module _ (q sum n : ℕ) where
       → Answer.Value (6 * n + (q / 8 + sum / 8 + (q % 8 + sum % 8 + 7) / 8)) ≡ bodySize q sum n
   unfolding bodySize bodyBytes
   is l h =
-      diff-is (6 * n + bytesFor (q + sum)) 0 (6 * n + (q / 8 + sum / 8 + (q % 8 + sum % 8 + 7) / 8)) (omega (arith, rounded))
+      diff-is (6 * n + bytesFor (q + sum)) 0 (6 * n + (q / 8 + sum / 8 + (q % 8 + sum % 8 + 7) / 8))
+      (omega (arith, rounded))
       (omega arith)
 
 ruleset laws = (many, past, is)

@@ -1,5 +1,5 @@
--- `node::sizes::compressed_separator_range_size` meets its contract: what is taken off, (m - 1) q, goes into the others by
--- themselves, or the whole times of q that they have go off first and the rest is compared in times of q.
+-- `node::sizes::compressed_separator_range_size` meets its contract: what is taken off, (m - 1) q, goes into the
+-- others by themselves, or the whole times of q that they have go off first and the rest is compared in times of q.
 -- Assumes nothing.
 use mathlib.Core.Path.{_≡_, sym, ap, _∙_}
 use Prim.Native.Nat.{ℕ, suc, _+_, _-_, _*_, _/_, _%_, _^_, _≤_, _<_, min}
@@ -18,7 +18,8 @@ no-items : (first m others q : ℕ) → m ≡ 0 → Answer.Refused 19 ≡ stored
 unfolding storedFromWhole
 no-items first m others q z = sym (ap (λ (x : ℕ). storedFromWhole first x others q) z)
 
-have-fits : (first others q l : ℕ) → l ≡ min first q → (q ≡ 0 → ⊥) → first < 2 ^ 64 → q < 2 ^ 64 → (first - l) + others % q < 2 ^ 64
+have-fits : (first others q l : ℕ) → l ≡ min first q → (q ≡ 0 → ⊥) → first < 2 ^ 64 → q < 2 ^ 64
+    → (first - l) + others % q < 2 ^ 64
 have-fits first others q l el z k kq = omega (arith, mod-lt others {m = q} (omega (arith, z)))
 
 module _ (first m others q l : ℕ) (el : l ≡ min first q) where
@@ -29,7 +30,8 @@ module _ (first m others q l : ℕ) (el : l ≡ min first q) where
         let e : m ≡ suc (m - 1) = omega (arith, some) in
         ap (λ (x : ℕ). storedFromWhole first x others q) e
 
-    no-prefix : q ≡ 0 → (r : Size) → sizeAnswer r ≡ difference ((first - l) + others + 0) 0 → sizeAnswer r ≡ storedFromWhole first m others q
+    no-prefix : q ≡ 0 → (r : Size) → sizeAnswer r ≡ difference ((first - l) + others + 0) 0
+        → sizeAnswer r ≡ storedFromWhole first m others q
     no-prefix z r e =
         let p : (m - 1) * q ≡ 0 = ap (λ (x : ℕ). (m - 1) * x) z ∙ omega arith in
         e ∙ diff-same (first - q + others) ((m - 1) * q) ((first - l) + others + 0) (omega arith) ∙ sym shaped
@@ -45,7 +47,8 @@ module _ (first m others q l : ℕ) (el : l ≡ min first q) where
           → sizeAnswer r ≡ storedFromWhole first m others q
       few h r e =
           e
-          ∙ diff-same (first - q + others) ((m - 1) * q) ((first - l) + (others - (m - 1) * q) + 0) (rest ((m - 1) * q) (few-le h))
+          ∙ diff-same (first - q + others) ((m - 1) * q) ((first - l) + (others - (m - 1) * q) + 0)
+          (rest ((m - 1) * q) (few-le h))
           ∙ sym shaped
         where
           rest : (p : ℕ) → p ≤ others → ((first - l) + (others - p) + 0) + p ≡ first - q + others
@@ -71,7 +74,8 @@ module _ (first m others q l : ℕ) (el : l ≡ min first q) where
           low : (w r x p : ℕ) → others ≡ w + r → p ≡ w + x → (first - l) + r < x → first - q + others < p
           low w r x p eo ep b = omega arith
 
-      more-le : (m - 1) - others / q ≤ ((first - l) + others % q) / q → ((m - 1) - others / q) * q ≤ (first - l) + others % q
+      more-le : (m - 1) - others / q ≤ ((first - l) + others % q) / q
+          → ((m - 1) - others / q) * q ≤ (first - l) + others % q
       more-le k = times-le ((m - 1) - others / q) q ((first - l) + others % q) z k
 
       more-fits : first < 2 ^ 64 → q < 2 ^ 64 → (m - 1) - others / q ≤ ((first - l) + others % q) / q
@@ -82,11 +86,13 @@ module _ (first m others q l : ℕ) (el : l ≡ min first q) where
           → Answer.Value (((first - l) + others % q) - ((m - 1) - others / q) * q) ≡ storedFromWhole first m others q
       many-is f fq h k =
           diff-is (first - q + others) ((m - 1) * q) (((first - l) + others % q) - ((m - 1) - others / q) * q)
-          (equal (others / q * q) (others % q) (((m - 1) - others / q) * q) ((m - 1) * q) parts (times-parts h) (more-le k))
+          (equal (others / q * q) (others % q) (((m - 1) - others / q) * q) ((m - 1) * q) parts (times-parts h)
+          (more-le k))
           (small (others % q) (((m - 1) - others / q) * q) (have-fits first others q l el z f fq))
           ∙ sym shaped
         where
-          equal : (w r x p : ℕ) → others ≡ w + r → p ≡ w + x → x ≤ (first - l) + r → (((first - l) + r) - x) + p ≡ first - q + others
+          equal : (w r x p : ℕ) → others ≡ w + r → p ≡ w + x → x ≤ (first - l) + r
+              → (((first - l) + r) - x) + p ≡ first - q + others
           equal w r x p eo ep b = omega arith
 
           small : (r x : ℕ) → (first - l) + r < 2 ^ 64 → ((first - l) + r) - x < 2 ^ 64

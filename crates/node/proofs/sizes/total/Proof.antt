@@ -14,10 +14,12 @@ module _ (a b c : ℕ) (l : a < 2 ^ 64) where
   past-two : 18446744073709551615 - a < b → Answer.Refused 19 ≡ difference (a + b + c) 0
   past-two h = diff-high (a + b + c) 0 (omega arith)
 
-  past-three : b ≤ 18446744073709551615 - a → 18446744073709551615 - (a + b) < c → Answer.Refused 19 ≡ difference (a + b + c) 0
+  past-three : b ≤ 18446744073709551615 - a → 18446744073709551615 - (a + b) < c
+      → Answer.Refused 19 ≡ difference (a + b + c) 0
   past-three k h = diff-high (a + b + c) 0 (omega arith)
 
-  is : b ≤ 18446744073709551615 - a → c ≤ 18446744073709551615 - (a + b) → Answer.Value (a + b + c) ≡ difference (a + b + c) 0
+  is : b ≤ 18446744073709551615 - a → c ≤ 18446744073709551615 - (a + b)
+      → Answer.Value (a + b + c) ≡ difference (a + b + c) 0
   is k h = diff-is (a + b + c) 0 (a + b + c) (omega arith) (omega arith)
 
 ruleset laws = (past-two, past-three, is)

@@ -1,5 +1,5 @@
--- `node::sizes::uncompressed_separator_range_size` meets its contract: for n of at least 1 the result is the sum of three
--- parts, q (n - 1) and what the first keeps of q among them; for n = 0 it is a difference.
+-- `node::sizes::uncompressed_separator_range_size` meets its contract: for n of at least 1 the result is the sum of
+-- three parts, q (n - 1) and what the first keeps of q among them; for n = 0 it is a difference.
 -- Assumes nothing.
 use mathlib.Core.Path.{_≡_, refl, sym, ap, _∙_}
 use Prim.Native.Nat.{ℕ, zero, suc, _+_, _-_, _*_, _^_, _≤_, _<_, min}
@@ -65,7 +65,8 @@ module _ (q sum n first kept : ℕ) (ek : kept ≡ min q first) where
         let l : 2 ^ 64 ≤ q * (n - 1) = past (q * (n - 1)) (refusalNumber x) (sym (ap sizeAnswer es) ∙ e) in
         diff-high (sum + q * n) (q - first) (omega (arith, last-one q n z))
 
-    some-is : (p : ℕ) (r : Size) → s ≡ Is p → sizeAnswer r ≡ difference (sum + p + kept) 0 → sizeAnswer r ≡ wholeFromStored q sum n first
+    some-is : (p : ℕ) (r : Size) → s ≡ Is p → sizeAnswer r ≡ difference (sum + p + kept) 0
+        → sizeAnswer r ≡ wholeFromStored q sum n first
     unfolding wholeFromStored
     some-is p r es er =
         let l : p ≡ q * (n - 1) = exact (q * (n - 1)) p (sym (ap sizeAnswer es) ∙ e) in

@@ -1,5 +1,5 @@
--- `rows::key::word_of` meets its contract: where the other key has 64 bits or more here, its word; else its first bits, with the
--- bits of s behind them, as many as are left.
+-- `rows::key::word_of` meets its contract: where the other key has 64 bits or more here, its word; else its first
+-- bits, with the bits of s behind them, as many as are left.
 -- Assumes nothing.
 use mathlib.Core.List.{List, _++_, append-nil}
 use mathlib.Core.Path.{_≡_, sym, ap, ap₂, _∙_}
@@ -28,10 +28,12 @@ module _ (s : List ℕ) (x lo q start len kept : ℕ) (ek : kept ≡ q - lo) whe
         → bits 64 r ≡ fill 64 (take (q - lo) (bits 64 x) ++ take (len - (lo - q)) (drop (start + (lo - q)) (bitsOf s)))
     none z e =
         let l : 0 ≡ len - (lo - q) = omega arith in
-        e ∙ ap (λ (n : ℕ). fill 64 (take n (bits 64 x))) ek ∙ ap (fill 64) (sym (append-nil (take (q - lo) (bits 64 x))))
+        e ∙ ap (λ (n : ℕ). fill 64 (take n (bits 64 x))) ek
+        ∙ ap (fill 64) (sym (append-nil (take (q - lo) (bits 64 x))))
         ∙ ap (λ (n : ℕ). fill 64 (take (q - lo) (bits 64 x) ++ take n (drop (start + (lo - q)) (bitsOf s)))) l
 
-    part : (w y : ℕ) → bits 64 w ≡ fill 64 (drop (start + skip) (bitsOf s)) → bits 64 y ≡ fill 64 (take left (bits 64 w))
+    part : (w y : ℕ) → bits 64 w ≡ fill 64 (drop (start + skip) (bitsOf s))
+        → bits 64 y ≡ fill 64 (take left (bits 64 w))
         → bits 64 r ≡ take 64 (take kept (bits 64 x) ++ bits 64 y)
         → bits 64 r ≡ fill 64 (take (q - lo) (bits 64 x) ++ take (len - (lo - q)) (drop (start + (lo - q)) (bitsOf s)))
     part w y ew ey er =

@@ -31,7 +31,8 @@ past t i k h e =
     let l2 : length t ≤ 6 * i + 2 = omega arith in
     let l3 : length t ≤ 6 * i + 3 = omega arith in
     e ∙ zeros
-    ∙ read t i 0 0 0 0 (byte-past t (6 * i) l0) (byte-past t (6 * i + 1) l1) (byte-past t (6 * i + 2) l2) (byte-past t (6 * i + 3) l3)
+    ∙ read t i 0 0 0 0 (byte-past t (6 * i) l0) (byte-past t (6 * i + 1) l1) (byte-past t (6 * i + 2) l2)
+    (byte-past t (6 * i + 3) l3)
 
 ruleset laws = (read, past)
 

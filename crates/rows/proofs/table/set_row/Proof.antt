@@ -1,5 +1,5 @@
--- `rows::table::set_row` meets its contract: six stores in a row are a run (`sets-eq`), and each word of a key is the value of
--- its bits.
+-- `rows::table::set_row` meets its contract: six stores in a row are a run (`sets-eq`), and each word of a key is the
+-- value of its bits.
 -- Assumes nothing.
 use mathlib.Core.List.{List, [], _∷_, _++_}
 use mathlib.Core.Path.{_≡_, sym, ap, ap₂, _∙_}
@@ -25,7 +25,9 @@ module _ (t : List ℕ) (i : ℕ) (k : Key) (p s : ℕ) where
       (ap₂ (λ (x y : ℕ). x ∷ y ∷ p ∷ s ∷ []) (word-c k hc) (word-d k hd))))
 
   in-room : i < length t / 6 → k .a < 2 ^ 64 → k .b < 2 ^ 64 → k .c < 2 ^ 64 → k .d < 2 ^ 64
-      → set (set (set (set (set (set t (6 * i) (k .a)) (6 * i + 1) (k .b)) (6 * i + 2) (k .c)) (6 * i + 3) (k .d)) (6 * i + 4) p)
+      → set
+      (set (set (set (set (set t (6 * i) (k .a)) (6 * i + 1) (k .b)) (6 * i + 2) (k .c)) (6 * i + 3) (k .d))
+      (6 * i + 4) p)
       (6 * i + 5) s
       ≡ withRow t i (record { key = keyBits k; pointer = p }) s
   in-room h ha hb hc hd =

@@ -2,7 +2,7 @@
 -- Assumes nothing.
 use mathlib.Core.List.{List, _++_}
 use mathlib.Core.Path.{_≡_, refl, sym, ap₂, _∙_}
-use Prim.Native.Nat.{ℕ, _*_}
+use Prim.Native.Nat.{ℕ}
 use native.Mathlib.Omega.{arith}
 use lib.ListN.{length, drop}
 use Rattle.format.specs.Bits.{bits, bitsOf, fill}
@@ -13,9 +13,9 @@ use borrow.Author.Needs.{needs}
 use Rattle.rows.proofs.key.Key.from_bytes.Statement.{statement}
 use Rattle.rows.proofs.key.Key.from_bytes.Tie as tie
 
-read : (s : List ℕ) (a b c d : ℕ) → length s ≡ 32 → bits 64 a ≡ fill 64 (drop (8 * 0) (bitsOf s))
-    → bits 64 b ≡ fill 64 (drop (8 * 8) (bitsOf s)) → bits 64 c ≡ fill 64 (drop (8 * 16) (bitsOf s))
-    → bits 64 d ≡ fill 64 (drop (8 * 24) (bitsOf s)) → keyBits (record { a = a; b = b; c = c; d = d }) ≡ bitsOf s
+read : (s : List ℕ) (a b c d : ℕ) → length s ≡ 32 → bits 64 a ≡ fill 64 (drop 0 (bitsOf s))
+    → bits 64 b ≡ fill 64 (drop 64 (bitsOf s)) → bits 64 c ≡ fill 64 (drop 128 (bitsOf s))
+    → bits 64 d ≡ fill 64 (drop 192 (bitsOf s)) → keyBits (record { a = a; b = b; c = c; d = d }) ≡ bitsOf s
 unfolding keyBits
 read s a b c d l ea eb ec ed =
     ap₂ _++_ (ap₂ _++_ (ap₂ _++_ ea eb) ec) ed
@@ -24,21 +24,21 @@ read s a b c d l ea eb ec ed =
 
 ruleset laws = (read)
 
-load-requires : tie.Need-load-requires
-load-requires c κs = search needs
+at-bit-requires : tie.Need-at-bit-requires
+at-bit-requires c κs = search needs
 
-load-requires-2 : tie.Need-load-requires-2
-load-requires-2 c κs = search needs
+at-bit-requires-2 : tie.Need-at-bit-requires-2
+at-bit-requires-2 c κs = search needs
 
-load-requires-3 : tie.Need-load-requires-3
-load-requires-3 c κs = search needs
+at-bit-requires-3 : tie.Need-at-bit-requires-3
+at-bit-requires-3 c κs = search needs
 
-load-requires-4 : tie.Need-load-requires-4
-load-requires-4 c κs = search needs
+at-bit-requires-4 : tie.Need-at-bit-requires-4
+at-bit-requires-4 c κs = search needs
 
 returns : tie.Need-returns
 returns c = search (needs, laws)
 
 pub from-bytes-spec : {M : Type 1} → statement M
 from-bytes-spec =
-    tie.close (tie.spec load-requires load-requires-2 load-requires-3 load-requires-4 returns)
+    tie.close (tie.spec at-bit-requires at-bit-requires-2 at-bit-requires-3 at-bit-requires-4 returns)

@@ -1,4 +1,5 @@
--- `rows::key::Key::less` meets its contract: the first two words that differ decide, and equal ones leave it to the next.
+-- `rows::key::Key::less` meets its contract: the first two words that differ decide, and equal ones leave it to the
+-- next.
 -- Assumes nothing.
 use mathlib.Core.List.{List, [], _++_, append-nil}
 use mathlib.Core.Path.{_≡_, sym, ap, ap₂, _∙_}
@@ -41,7 +42,8 @@ module _ (k o : Key) where
     differ-b hk ho d = sym (past-a ∙ below-differ 64 (k .b) (o .b) (cd k) (cd o) hk ho d)
 
     module _ (b : k .b ≡ o .b) where
-      past-b : below (keyBits k) (keyBits o) ≡ below (bits 64 (k .c) ++ bits 64 (k .d)) (bits 64 (o .c) ++ bits 64 (o .d))
+      past-b : below (keyBits k) (keyBits o) ≡ below (bits 64 (k .c) ++ bits 64 (k .d))
+          (bits 64 (o .c) ++ bits 64 (o .d))
       unfolding cd
       past-b = past-a ∙ below-equal 64 (k .b) (o .b) (cd k) (cd o) b
 
@@ -50,7 +52,8 @@ module _ (k o : Key) where
 
       last : k .d < 2 ^ 64 → o .d < 2 ^ 64 → k .c ≡ o .c → ltb (k .d) (o .d) ≡ below (keyBits k) (keyBits o)
       last hk ho c =
-          sym (past-b ∙ below-equal 64 (k .c) (o .c) (bits 64 (k .d)) (bits 64 (o .d)) c ∙ go (ℕ-discrete (k .d) (o .d)))
+          sym
+          (past-b ∙ below-equal 64 (k .c) (o .c) (bits 64 (k .d)) (bits 64 (o .d)) c ∙ go (ℕ-discrete (k .d) (o .d)))
         where
           go : Dec (k .d ≡ o .d) → below (bits 64 (k .d)) (bits 64 (o .d)) ≡ ltb (k .d) (o .d)
           go (yes e) =

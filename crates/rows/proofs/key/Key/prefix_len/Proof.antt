@@ -1,5 +1,5 @@
--- `rows::key::Key::prefix_len` meets its contract: equal words share their 64 bits, and the first two that differ share the
--- leading zeros of their difference.
+-- `rows::key::Key::prefix_len` meets its contract: equal words share their 64 bits, and the first two that differ
+-- share the leading zeros of their difference.
 -- Assumes nothing.
 use mathlib.Core.List.{List, [], _++_, append-nil}
 use mathlib.Core.Path.{_≡_, sym, ap, ap₂, _∙_}
@@ -72,7 +72,8 @@ module _ (k o : Key) where
         equal : k .d ≡ o .d → 256 ≡ sharedBits (keyBits k) (keyBits o)
         equal d =
             let e : sharedBits (bits 64 (k .d)) (bits 64 (o .d)) ≡ 64 =
-            ap (λ (x : ℕ). sharedBits (bits 64 x) (bits 64 (o .d))) d ∙ sharedBits-same (bits 64 (o .d)) ∙ length-bits 64 (o .d) in
+            ap (λ (x : ℕ). sharedBits (bits 64 x) (bits 64 (o .d))) d ∙ sharedBits-same (bits 64 (o .d))
+            ∙ length-bits 64 (o .d) in
             omega (arith, past-c)
 
 counted : (w : ℕ) → Fits w64 (leadingZeros 64 w)
@@ -99,7 +100,8 @@ most-c w = omega (arith, leading-le 64 w)
 most-d : (w : ℕ) → 192 + leadingZeros 64 w ≤ 256
 most-d w = omega (arith, leading-le 64 w)
 
-ruleset laws = (differ-a, differ-b, differ-c, differ-d, equal, counted, room-b, room-c, room-d, most-a, most-b, most-c, most-d)
+ruleset laws =
+    (differ-a, differ-b, differ-c, differ-d, equal, counted, room-b, room-c, room-d, most-a, most-b, most-c, most-d)
 
 cast-result : tie.Need-cast-result
 cast-result c = search (needs, laws)

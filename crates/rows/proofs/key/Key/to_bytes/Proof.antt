@@ -1,4 +1,5 @@
--- `rows::key::Key::to_bytes` meets its contract: four words stored one behind the other are the bytes of the key's bits.
+-- `rows::key::Key::to_bytes` meets its contract: four words stored one behind the other are the bytes of the key's
+-- bits.
 -- Assumes nothing.
 use mathlib.Core.List.{List, [], _++_, append-nil}
 use mathlib.Core.Path.{_≡_, refl, sym, ap, ap₂, _∙_}
@@ -60,7 +61,8 @@ module _ (k : Key) where
       ∙ ap₂ _++_ (bitsOf-append a (wordBytes (k .b)) ∙ ap₂ _++_ (bitsOf-wordBytes (k .a)) (bitsOf-wordBytes (k .b)))
       (bitsOf-wordBytes (k .c))) (bitsOf-wordBytes (k .d))
 
-  stored : (s t u v w : List ℕ) → length s ≡ 32 → t ≡ withWord s 0 (k .a) → u ≡ withWord t 8 (k .b) → v ≡ withWord u 16 (k .c)
+  stored : (s t u v w : List ℕ) → length s ≡ 32 → t ≡ withWord s 0 (k .a) → u ≡ withWord t 8 (k .b)
+      → v ≡ withWord u 16 (k .c)
       → w ≡ withWord v 24 (k .d) → w ≡ pack 32 (keyBits k)
   unfolding a ab abc bytes
   stored s t u v w l et eu ev ew =
@@ -97,7 +99,9 @@ store-requires-4 : tie.Need-store-requires-4
 store-requires-4 c κs = search needs
 
 returns : tie.Need-returns
-returns c = stored _ _ _ _ _ _ zeros (c .before .before .before .before .before .before .store .ensures) (c .before .before .before .before .store2 .ensures) (c .before .before .store3 .ensures) (c .store4 .ensures)
+returns c =
+    stored _ _ _ _ _ _ zeros (c .before .before .before .before .before .before .store .ensures)
+    (c .before .before .before .before .store2 .ensures) (c .before .before .store3 .ensures) (c .store4 .ensures)
 
 pub to-bytes-spec : {M : Type 1} → statement M
 to-bytes-spec =

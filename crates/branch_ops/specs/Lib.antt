@@ -1,0 +1,3 @@
+-- What the contracts of `branch_ops` cite, as definitions. Read in this order.
+pub mod Choice
+pub mod Writer

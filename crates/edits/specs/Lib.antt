@@ -1,0 +1,3 @@
+-- What the contracts of `edits` cite, as definitions. Read in this order.
+pub mod Record
+pub mod Apply
