@@ -3,3 +3,4 @@ pub mod ChoiceLaws
 pub mod PasteLaws
 pub mod PutLaws
 pub mod WriterLaws
+pub mod Cases

@@ -1,13 +1,14 @@
 -- Laws of the record writer (`specs/Writer.antt`).
 -- In order: one edit more, as the code writes it; the end, as the code writes it; what the buffer holds after some
--- edits (`Holds`), one more, and the end, where its first bytes are the record of the edits.
+-- edits (`Holds`), one more, and the end, where its first bytes are the record of the edits; all edits of a record
+-- (`recordIn`).
 -- Not here: bits that are written (`PutLaws`).
 -- Assumes nothing.
 use mathlib.Core.Bool.{Bool, true, false, cond, _&&_}
 use mathlib.Core.List.{List, [], _∷_, _++_, append-assoc, append-nil}
 use mathlib.Core.Path.{_≡_, refl, sym, ap, ap₂, subst, _∙_}
 use Prim.Native.Nat.{ℕ, _+_, _-_, _*_, _^_, _≤_, _<_, min, max}
-use native.Mathlib.Nat.{add-zero}
+use native.Mathlib.Nat.{add-zero, le-trans}
 use native.Mathlib.Omega.{arith}
 use borrow.Author.Tests.{lt-ltb, le-ltb, le-leb, lt-leb}
 use lib.ListN.{length, take, drop, replicate, length-append, length-replicate, take-append-drop}
@@ -29,6 +30,7 @@ use Rattle.format.proofs.BitsLaws.{
   bitsOf-pack,
   bytesFor-holds,
   bytesFor-least,
+  bytesFor-mono,
   bytesFor-slack,
   fill-exact,
   length-bits,
@@ -50,6 +52,9 @@ use Rattle.branch_ops.specs.Writer.{
   pushedBytes,
   hasEnd,
   finishedBytes,
+  Writing,
+  pushedAll,
+  recordIn,
 }
 
 -- ---- one edit more
@@ -411,3 +416,81 @@ module _ (d : List ℕ) (w : RecordWriter) (es : List Edit) (h : Holds d w es) (
       ∙ packed (take k t) (headed es ++ replicate pad 0) (allBelow-take 256 k t (allBelow-pack (length d) x bx)) front
       ∙ ap (λ (n : ℕ). pack n (headed es ++ replicate pad 0)) lk ∙ pack-zeros k pad (headed es) headed-bits
       ∙ sym (recordOf-pack es ∙ ap (λ (n : ℕ). pack (bytesFor n) (headed es)) headed-length)
+
+-- ---- all edits of a record
+
+length-withBits : (d : List ℕ) (p : ℕ) (bs : List ℕ) → length (withBits d p bs) ≡ length d
+unfolding withBits
+length-withBits d p bs = length-pack (length d) (paste (bitsOf d) p bs (length bs))
+
+length-pushedBytes : (w : RecordWriter) (d : List ℕ) (e : Edit) → length (pushedBytes w d e) ≡ length d
+length-pushedBytes w d e = go (hasRoom w d e) refl
+  where
+    go : (b : Bool) → hasRoom w d e ≡ b → length (pushedBytes w d e) ≡ length d
+    go true q = ap length (pushedBytes-room w d e q) ∙ length-withBits d (w .bit) (editBits e)
+    go false q = ap length (pushedBytes-none w d e q)
+
+length-pushedAll : (es : List Edit) (s : Writing) → length (pushedAll s es .buffer) ≡ length (s .buffer)
+unfolding pushedAll
+length-pushedAll [] s = refl
+length-pushedAll (e ∷ es) s =
+    length-pushedAll es (record {
+      writer = pushedWriter (s .writer) (s .buffer) e;
+      buffer = pushedBytes (s .writer)
+          (s .buffer) e;
+    })
+    ∙ length-pushedBytes (s .writer) (s .buffer) e
+
+length-cons : (e : Edit) (es : List Edit) → length (editsBits (e ∷ es)) ≡ length (editBits e) + length (editsBits es)
+unfolding editsBits
+length-cons e es = length-append (editBits e) (editsBits es)
+
+allWellFormed-front : (es fs : List Edit) → AllWellFormed (es ++ fs) → AllWellFormed es
+allWellFormed-front [] fs f = tt
+allWellFormed-front (e ∷ es) fs f = (f .0, allWellFormed-front es fs (f .1))
+
+allWellFormed-next : (es : List Edit) (e : Edit) (fs : List Edit) → AllWellFormed (es ++ (e ∷ fs)) → WellFormed e
+allWellFormed-next [] e fs f = f .0
+allWellFormed-next (x ∷ es) e fs f = allWellFormed-next es e fs (f .1)
+
+holds-all : (fs es : List Edit) (s : Writing) → Holds (s .buffer) (s .writer) es → AllWellFormed (es ++ fs)
+    → length (es ++ fs) ≤ 1023 → bytesFor (10 + length (editsBits (es ++ fs))) ≤ length (s .buffer)
+    → Holds (pushedAll s fs .buffer) (pushedAll s fs .writer) (es ++ fs)
+unfolding pushedAll
+holds-all [] es s h f u v = subst (Holds (s .buffer) (s .writer)) (sym (append-nil es)) h
+holds-all (e ∷ fs) es s h f u v =
+    let w : RecordWriter = s .writer in
+    let d : List ℕ = s .buffer in
+    let one : es ++ (e ∷ fs) ≡ (es ++ (e ∷ [])) ++ fs = sym (append-assoc es (e ∷ []) fs) in
+    let bits-are : length (editsBits (es ++ (e ∷ fs))) ≡ length (editsBits es) +
+    (length (editBits e) + length (editsBits fs)) =
+    ap length (editsBits-append es (e ∷ fs)) ∙ length-append (editsBits es) (editsBits (e ∷ fs))
+    ∙ ap (λ (k : ℕ). length (editsBits es) + k) (length-cons e fs) in
+    let fits : bytesFor (w .bit + length (editBits e)) ≤ length d =
+    le-trans (bytesFor-mono (w .bit + length (editBits e)) (10 + length (editsBits (es ++ (e ∷ fs))))
+    (omega (arith, h .bit))) v in
+    let n : Holds (pushedBytes w d e) (pushedWriter w d e) (es ++ (e ∷ [])) =
+    holds-push d w es h (allWellFormed-front es (e ∷ fs) f) e (allWellFormed-next es e fs f)
+    (omega (arith, length-append es (e ∷ fs))) fits in
+    let next : Writing = record { writer = pushedWriter w d e; buffer = pushedBytes w d e } in
+    subst (Holds (pushedAll next fs .buffer) (pushedAll next fs .writer)) (sym one)
+    (holds-all fs (es ++ (e ∷ [])) next n (subst AllWellFormed one f) (subst (λ (l : List Edit). length l ≤ 1023) one u)
+    (subst (λ (k : ℕ). bytesFor (10 + length (editsBits ((es ++ (e ∷ [])) ++ fs))) ≤ k) (sym (length-pushedBytes w d e))
+    (subst (λ (l : List Edit). bytesFor (10 + length (editsBits l)) ≤ length d) one v)))
+
+-- edits that are written into a buffer with room for their record leave it there
+pub recordIn-recordOf : (d : List ℕ) (es : List Edit) → AllWellFormed es → length es ≤ 1023
+    → length (recordOf es) ≤ length d
+    → take (length (recordOf es)) (recordIn d es) ≡ recordOf es
+unfolding recordIn
+recordIn-recordOf d es f u v =
+    let s : Writing = pushedAll (record { writer = startingWriter; buffer = d }) es in
+    let z : bytesFor (10 + length (editsBits es)) ≡ length (recordOf es) =
+    sym (ap length (recordOf-pack es) ∙ length-pack (bytesFor (length (headed es))) (headed es)
+    ∙ ap bytesFor (length-append (bits 10 (length es)) (editsBits es)
+    ∙ ap (λ (k : ℕ). k + length (editsBits es)) (length-bits 10 (length es)))) in
+    let h : Holds (s .buffer) (s .writer) es =
+    holds-all es [] (record { writer = startingWriter; buffer = d }) (holds-none d) f u (omega (arith, z)) in
+    let l : length (s .buffer) ≡ length d = length-pushedAll es (record { writer = startingWriter; buffer = d }) in
+    ap (λ (k : ℕ). take k (finishedBytes (s .writer) (s .buffer))) (sym (holds-length (s .buffer) (s .writer) es h f))
+    ∙ holds-finish (s .buffer) (s .writer) es h f u (omega (arith, holds-length (s .buffer) (s .writer) es h f, l))

@@ -1,8 +1,9 @@
 -- The writing of an edit record, edit by edit. Document 01, "Edit record".
--- In order: Bytes · withBits · startingWriter hasRoom pushedWriter pushedBytes · hasEnd finishedBytes.
+-- In order: Bytes · withBits · startingWriter hasRoom pushedWriter pushedBytes · hasEnd finishedBytes ·
+-- Writing pushedAll recordIn.
 -- Assumes nothing.
 use mathlib.Core.Bool.{Bool, cond, _&&_}
-use mathlib.Core.List.{List}
+use mathlib.Core.List.{List, [], _∷_}
 use Prim.Native.Nat.{ℕ, _+_, _-_, _*_, _<_, min, max}
 use lib.Dec.{ltb, leb}
 use lib.ListN.{length, replicate}
@@ -53,3 +54,26 @@ finishedBytes w d =
     let pad : ℕ = 8 * bytesFor (w .bit) - w .bit in
     let padded : List ℕ = paste (bitsOf d) (w .bit) (replicate pad 0) pad in
     cond (hasEnd w d) (pack (length d) (paste padded 0 (bits 10 (w .edits)) 10)) d
+
+-- A writer and its buffer.
+pub record Writing : Type 0 where
+  pub writer : RecordWriter
+  pub buffer : List ℕ
+
+-- They after edits, one pushed behind the other.
+unfoldable pub pushedAll : Writing → List Edit → Writing
+unfolding pushedWriter pushedBytes
+pushedAll s [] = s
+pushedAll s (e ∷ es) =
+    let next : Writing = record {
+      writer = pushedWriter (s .writer) (s .buffer) e;
+      buffer = pushedBytes (s .writer) (s .buffer) e;
+    } in
+    pushedAll next es
+
+-- The buffer d after a new writer has written edits and the end.
+unfoldable pub recordIn : List ℕ → List Edit → List ℕ
+unfolding pushedAll startingWriter finishedBytes
+recordIn d es =
+    let s : Writing = pushedAll (record { writer = startingWriter; buffer = d }) es in
+    finishedBytes (s .writer) (s .buffer)

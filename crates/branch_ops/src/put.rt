@@ -51,7 +51,8 @@ fn replaced(x: u64, s: usize, n: usize, v: u64) -> u64
 fn put_bits(d: &mut [u8], i: usize, j: usize, n: usize, v: u64)
     requires { ⌜ (i < length (now d)) × (j + n ≤ 8) × (v < 2 ^ n) ⌝ }
     ensures written { λ _. ⌜ (bitsOf (now (d .exit))
-        ≡ paste (bitsOf (now (d .entry))) (8 * i + j) (bits n v) n) × AllBelow 256 (now (d .exit)) ⌝ }
+        ≡ paste (bitsOf (now (d .entry))) (8 * i + j) (bits n v) n)
+        × AllBelow 256 (now (d .exit)) ⌝ }
 {
     let x = wide(d[i]);
     let y = replaced(x, 8 - j - n, n, v);

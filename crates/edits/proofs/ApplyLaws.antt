@@ -15,7 +15,7 @@ use native.Mathlib.Omega.{arith}
 use borrow.Author.Tests.{not-true, not-false, ne-eqb, eqb-false}
 use lib.Dec.{eqb, ltb}
 use lib.ListN.{length, take, drop, getD, replicate, length-append, length-take, length-drop}
-use lib.Seq.{drop-cons, getD-take}
+use lib.Seq.{drop-cons, getD-take, take-all}
 use Rattle.format.specs.Answer.{Answer, NoneHolds, refuse, first, unless}
 use Rattle.format.specs.Bits.{bitsOf, value}
 use Rattle.format.specs.Build.{editsOf, malformed}
@@ -40,7 +40,7 @@ use Rattle.format.specs.Page.{Entry, each}
 use Rattle.format.proofs.AnswerLaws.{and-left, and-right, first-stop, noneHolds-first}
 use Rattle.format.proofs.BitsLaws.{allBelow-bitsOf, allBelow-drop}
 use Rattle.format.proofs.EditLaws.{outside-keep, outside-update, anyOutside-head, anyOutside-tail}
-use Rattle.format.proofs.EntryLaws.{AreKeys, areKeys-at, each-at, keys-at, length-keys}
+use Rattle.format.proofs.EntryLaws.{Ascending, AreKeys, areKeys-at, ascending-next, each-at, keys-at, length-keys}
 use Rattle.format.proofs.RecordLaws.{readEdits-written, readRecord-bits}
 use Rattle.rows.specs.Keys.{keyBits}
 use Rattle.rows.specs.Rows.{rowKey, rowSource, rowEntry, rows, withRow}
@@ -422,9 +422,8 @@ areKeys-apply b (e ∷ es) h w o =
     (areKeys-apply b es h (w .1) (anyOutside-tail (length b) e es o))
 
 formed-option : (o : Option (List Edit)) → formedIn o ≡ not (malformed o)
-unfolding formedIn malformed
-formed-option none = refl
-formed-option (some es) = refl
+unfolding formedIn
+formed-option o = refl
 
 -- the edits that a record holds are well-formed; there are none in a malformed one
 pub allWellFormed-record : (s : List ℕ) → AllWellFormed (editsOf (readRecord s))
@@ -656,3 +655,26 @@ newRows n base s t k e =
           ap₂ (λ (m : ℕ) (u : List ℕ). each (min m (length t / 6)) (rowSource u)) lx tb
           ∙ sources-laid t xs ∙ ap (take (length t / 6)) (sourcesIn-paired new (sources es) l);
     }
+
+module _ (n : ℕ) (base s t t′ : List ℕ) (k : ℕ) (r : NewRows n base s t t′ k) where
+  pub newRows-ascending : Ascending (keys (apply (rows n base) (editsOf (readRecord s))))
+  newRows-ascending =
+      let new : List Entry = apply (rows n base) (editsOf (readRecord s)) in
+      record {
+        key = λ i h. areKeys-at (keys new) i (r .areKeys) h;
+        next = λ i h. ascending-next new (r .rising) i (omega (arith, length-keys new));
+      }
+
+  -- a table with room for all of them has them all
+  pub newRows-rows : k ≤ length t / 6 → rows k t′ ≡ apply (rows n base) (editsOf (readRecord s))
+  newRows-rows h =
+      let new : List Entry = apply (rows n base) (editsOf (readRecord s)) in
+      let e : min k (length t / 6) ≡ k = omega arith in
+      ap (λ (m : ℕ). rows m t′) (sym e) ∙ r .entries ∙ take-all (length t / 6) new (omega (arith, r .count))
+
+  pub newRows-sources : k ≤ length t / 6 → each k (rowSource t′) ≡ sources (editsOf (readRecord s))
+  newRows-sources h =
+      let es : List Edit = editsOf (readRecord s) in
+      let e : min k (length t / 6) ≡ k = omega arith in
+      ap (λ (m : ℕ). each m (rowSource t′)) (sym e) ∙ r .from
+      ∙ take-all (length t / 6) (sources es) (omega (arith, r .count, length-sources base n es (r .inside)))

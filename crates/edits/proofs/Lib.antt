@@ -2,3 +2,4 @@
 pub mod ReadingLaws
 pub mod PassLaws
 pub mod ApplyLaws
+pub mod Cases

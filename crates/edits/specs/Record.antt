@@ -1,14 +1,15 @@
 -- The edit record as the code reads it, edit by edit, with zeros where bits are lacking. Document 01, "Edit record".
 -- In order: editMeant reachOf · formedIn countOf · kindAt editAt spanAt · HeadOf insideHead.
 -- Assumes nothing.
-use mathlib.Core.Bool.{Bool, true, false, cond, _||_}
+use mathlib.Core.Bool.{Bool, true, false, cond, not, _||_}
 use mathlib.Core.List.{List}
-use mathlib.Core.Option.{Option, none, some}
+use mathlib.Core.Option.{Option}
 use mathlib.Core.Path.{_≡_}
 use Prim.Native.Nat.{ℕ, _+_}
 use lib.Dec.{eqb, ltb, leb}
 use lib.ListN.{length, drop}
 use Rattle.format.specs.Bits.{bitsOf, value, fill}
+use Rattle.format.specs.Build.{malformed}
 use Rattle.format.specs.Edit.{Edit, fieldBits, editOf}
 use Rattle.format.specs.Edit.Edit.{Insert, Update, Keep}
 use Rattle.rows.specs.Keys.{keyBits}
@@ -32,10 +33,10 @@ reachOf (Insert k p) = 0
 reachOf (Update i p) = i
 reachOf (Keep s e) = e
 
--- Edits were read: the record was well-formed.
+-- The record was not malformed.
 unfoldable pub formedIn : Option (List Edit) → Bool
-formedIn none = false
-formedIn (some es) = true
+unfolding malformed
+formedIn o = not (malformed o)
 
 -- The count in a record's first ten bits.
 unfoldable pub countOf : List ℕ → ℕ

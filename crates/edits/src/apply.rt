@@ -134,8 +134,8 @@ fn lay_all(s: &[u8], base: &[u64], t: &mut [u64]) -> State
 // The entries that the record s makes of a base's first n rows, laid into t from row 0 on, each
 // with its position in the base; those past t's last row are tested and counted, and not stored.
 // Refused, in this order: 10, the record is malformed; 11, a position that the base has not; 12, no
-// edits; 13, a key that is not above the one before it. With 10 to 12 t is as it was; with 13 it has
-// the entries before that key.
+// edits; 13, a key that is not above the one before it. With 10 to 12 t is as it was; with 13 it
+// has the entries before that key.
 pub fn edit_rows(s: &[u8], base: &[u64], n: usize, t: &mut [u64]) -> Edited
     ensures answer { λ r. ⌜ editedAnswer r
         ≡ newCount (rows n (now (base .entry))) (now (s .entry)) ⌝ }
