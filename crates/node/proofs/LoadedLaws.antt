@@ -1,20 +1,22 @@
 -- Laws of what a check, an entry that was read and a page that was loaded tell (`specs/Reader.antt`).
--- In order: a header that was answered; a refusal; the table after a page was loaded.
+-- In order: a header that was answered; a refusal; rows that are filled one behind the other; the table after a page
+-- was loaded.
 -- Assumes nothing.
 use mathlib.Core.List.{List}
 use mathlib.Core.Path.{_≡_, refl, sym, ap, ap₂, subst, _∙_}
 use Prim.Native.Nat.{ℕ, zero, suc, _+_, _*_, _/_, _≤_, _<_}
+use native.Mathlib.Numerals.{add-one}
 use native.Mathlib.Omega.{arith}
 use lib.ListN.{length}
 use Rattle.format.specs.Answer.{Answer, afterwards, unless}
 use Rattle.format.specs.Key.{IsKey}
 use Rattle.format.specs.Normal.{keys}
-use Rattle.format.specs.Page.{Header, checkPage, count, each, entries, entryOf, headerOf, keyOf, pageRefusal}
+use Rattle.format.specs.Page.{Entry, Header, checkPage, count, each, entries, entryOf, headerOf, keyOf, pageRefusal}
 use Rattle.format.proofs.AcceptedLaws.{Accepted, accepted-pageRefusal}
-use Rattle.format.proofs.EntryLaws.{AreKeys}
+use Rattle.format.proofs.EntryLaws.{AreKeys, length-each}
 use Rattle.format.proofs.PageLaws.{keyOf-key, length-entries}
-use Rattle.rows.specs.Rows.{rowSource, rows, withRows}
-use Rattle.rows.proofs.RowsLaws.{length-withRows, rows-withRows, rowSource-withRows}
+use Rattle.rows.specs.Rows.{rowSource, rows, withRow, withRows}
+use Rattle.rows.proofs.RowsLaws.{each-snoc, length-withRows, rows-withRows, rowSource-withRows, withRows-snoc}
 use Rattle.node.specs.declared.reader.Header.{Header as Numbers}
 use Rattle.node.specs.Reader.{SizesFit, headerMeant, loaded}
 
@@ -73,6 +75,38 @@ checked-refused p r e = go (pageRefusal p) refl
         let f : Answer.Refused r ≡ Answer.Refused (suc n) = e ∙ ap (λ (k : ℕ). unless k (headerOf p)) q in
         let s : r ≡ suc n = cc in
         (q ∙ sym s, omega arith)
+
+-- ---- rows that are filled one behind the other
+
+-- t is t₀ with f 0, f 1, .. f (i - 1) in its rows
+pub record Filled (f : ℕ → Entry) (t₀ : List ℕ) (i : ℕ) (t : List ℕ) : Type 0 where
+  pub held : t ≡ withRows t₀ 0 (each i f)
+
+pub filled-none : (f : ℕ → Entry) (t : List ℕ) → Filled f t 0 t
+unfolding withRows each
+filled-none f t = record { held = refl }
+
+pub filled-more : (f : ℕ → Entry) (t₀ t u : List ℕ) (i : ℕ) (e : Entry) → Filled f t₀ i t → e ≡ f i
+    → u ≡ withRow t i e i
+    → Filled f t₀ (i + 1) u
+filled-more f t₀ t u i e h ee eu =
+    let n : i ≡ 0 + length (each i f) = omega (arith, length-each i f) in
+    record {
+      held =
+          eu ∙ ap₂ (λ (v : List ℕ) (y : Entry). withRow v i y i) (h .held) ee
+          ∙ ap (λ (j : ℕ). withRow (withRows t₀ 0 (each i f)) j (f i) j) n
+          ∙ sym (withRows-snoc t₀ 0 (each i f) (f i))
+          ∙ ap (withRows t₀ 0) (sym (ap (λ (j : ℕ). each j f) (add-one i) ∙ each-snoc i f));
+    }
+
+pub filled-length : (f : ℕ → Entry) (t₀ t : List ℕ) (i : ℕ) → Filled f t₀ i t → length t ≡ length t₀
+filled-length f t₀ t i h = ap length (h .held) ∙ length-withRows t₀ 0 (each i f)
+
+pub filled-all : (f : ℕ → Entry) (t₀ t : List ℕ) (n i : ℕ) → Filled f t₀ i t → i ≤ n → n ≤ i
+    → t ≡ withRows t₀ 0 (each n f)
+filled-all f t₀ t n i h l l′ =
+    let e : i ≡ n = omega arith in
+    h .held ∙ ap (λ (j : ℕ). withRows t₀ 0 (each j f)) e
 
 -- ---- the table after a page was loaded
 

@@ -1,6 +1,6 @@
 -- Laws of the tests of a page: what a check answers where the first that holds is known, and where none holds.
--- In order: a test at every place (`some`); where separators start; refusals 1 to 5, by the numbers that the code
--- has; 6 to 8.
+-- In order: a test at every place (`some`); where separators start; keys that rise; refusals 1 to 5, by the numbers
+-- that the code has; 6 to 8.
 -- Not here: a page that none of them refuses (format's `AcceptedLaws`).
 -- Assumes nothing.
 use mathlib.Core.Bool.{Bool, true, false, not, cond, _||_}
@@ -16,6 +16,7 @@ use lib.Dec.{ltb, eqb}
 use lib.ListN.{length, take, drop}
 use Rattle.format.specs.Answer.{Answer, first, some, unless}
 use Rattle.format.specs.Bits.{unle, bytesFor}
+use Rattle.format.specs.Key.{below}
 use Rattle.format.specs.Page.{
   Header,
   bodyBytes,
@@ -24,16 +25,19 @@ use Rattle.format.specs.Page.{
   count,
   endOf,
   headerOf,
+  keyOf,
   pageNumber,
   pageRefusal,
   pageTests,
   prefixLength,
   startOf,
 }
-use Rattle.format.proofs.AnswerLaws.{or-false}
+use Rattle.format.proofs.AnswerLaws.{or-false, some-false, some-false-at}
 use Rattle.format.proofs.PageLaws.{startOf-zero, startOf-suc}
+use Rattle.rows.specs.declared.key.Key.{Key}
+use Rattle.rows.specs.Keys.{keyBits}
 use Rattle.node.specs.declared.reader.Header.{Header as Numbers}
-use Rattle.node.specs.Reader.{SizesFit, falling, headerMeant, misfit, unordered}
+use Rattle.node.specs.Reader.{ShapeFits, SizesFit, falling, headerMeant, misfit, unordered}
 
 -- ---- some
 
@@ -55,6 +59,11 @@ some-at (suc n) f i h e =
     (λ (l : i < n). or-true (f n) (some n f) (some-at n f i l e))
     (eq-or-lt-of-le (le-of-suc-le-suc h))
 
+pub some-same : (n : ℕ) (f g : ℕ → Bool) → ((i : ℕ) → i < n → f i ≡ g i) → some n f ≡ some n g
+unfolding some
+some-same zero f g e = refl
+some-same (suc n) f g e = ap₂ _||_ (e n (omega arith)) (some-same n f g (λ i l. e i (omega arith)))
+
 -- ---- where separators start
 
 pub start-first : (p : List ℕ) → 0 ≡ startOf p 0
@@ -63,10 +72,60 @@ start-first p = sym (startOf-zero p)
 pub start-next : (p : List ℕ) (i e : ℕ) → e ≡ endOf p i → e ≡ startOf p (i + 1)
 start-next p i e q = q ∙ sym (ap (startOf p) (add-one i) ∙ startOf-suc p i)
 
+-- ---- keys that rise
+
+-- the first i of the keys f 0, f 1, .. rise, and k is the last of them
+pub record Rising (f : ℕ → List ℕ) (i : ℕ) (k : Key) : Type 0 where
+  pub none : unordered f i ≡ false
+  pub last : keyBits k ≡ f (i - 1)
+  pub some-key : 1 ≤ i
+
+pub rising-first : (f : ℕ → List ℕ) (k : Key) → keyBits k ≡ f 0 → Rising f 1 k
+unfolding unordered some
+rising-first f k e = record { none = refl; last = e; some-key = omega arith }
+
+-- the next key, by whether it is above the last
+module _ (f : ℕ → List ℕ) (i : ℕ) (k l : Key) (r : Bool) (so : Rising f i k) (e : keyBits l ≡ f i)
+    (er : r ≡ below (keyBits k) (keyBits l)) where
+  next : not (below (f (i - 1)) (f (suc (i - 1)))) ≡ not r
+  next =
+      let s : suc (i - 1) ≡ i = omega (arith, so .some-key) in
+      ap not (ap₂ below (sym (so .last)) (ap f s ∙ sym e) ∙ sym er)
+
+  pub rising-more : not r ≡ false → Rising f (i + 1) l
+  unfolding unordered
+  rising-more z =
+      let s : (i + 1) - 1 ≡ (i - 1) + 1 = omega (arith, so .some-key) in
+      let t : i ≡ (i + 1) - 1 = omega arith in
+      record {
+        none =
+            ap (λ (n : ℕ). some n (λ j. not (below (f j) (f (suc j))))) s
+            ∙ some-more (i - 1) (λ j. not (below (f j) (f (suc j)))) (next ∙ z) (so .none);
+        last = e ∙ ap f t;
+        some-key = omega arith;
+      }
+
+  pub rising-stop : (n : ℕ) → i < n → not r ≡ true → true ≡ unordered f n
+  unfolding unordered
+  rising-stop n h z =
+      sym (some-at (n - 1) (λ j. not (below (f j) (f (suc j)))) (i - 1) (omega (arith, so .some-key)) (next ∙ z))
+
+pub rising-all : (f : ℕ → List ℕ) (n i : ℕ) (k : Key) → Rising f i k → n ≤ i → false ≡ unordered f n
+unfolding unordered
+rising-all f n i k so h =
+    sym (some-false (n - 1) (λ j. not (below (f j) (f (suc j))))
+    (λ j l. some-false-at (i - 1) (λ m. not (below (f m) (f (suc m)))) j (so .none) (omega arith)))
+
+pub unordered-same : (f g : ℕ → List ℕ) (n : ℕ) → ((i : ℕ) → i < n → f i ≡ g i) → unordered f n ≡ unordered g n
+unfolding unordered
+unordered-same f g n e =
+    some-same (n - 1) (λ i. not (below (f i) (f (suc i)))) (λ i. not (below (g i) (g (suc i))))
+    (λ i l. ap not (ap₂ below (e i (omega arith)) (e (suc i) (omega arith))))
+
 -- ---- the tests, one behind the other
 
 abbrev after7 : List ℕ → ℕ
-after7 p = cond (unordered p (count p)) 8 0
+after7 p = cond (unordered (keyOf p) (count p)) 8 0
 
 abbrev after6 : List ℕ → ℕ
 after6 p = cond (misfit p (count p)) 7 (after7 p)
@@ -239,38 +298,40 @@ module _ (p : List ℕ) (h : Numbers) (f : SizesFit p h) where
       (le-ltb 4086 (6 * count p) c5)
       (le-ltb 4086 (bodyBytes (count p) (prefixLength p) (startOf p (count p))) (f .fits)))
 
-  module _ (r6 : Bool) (e6 : r6 ≡ falling p (h .n)) where
-    told-6 : falling p (count p) ≡ r6
-    told-6 = ap (falling p) (sym (f .n-is)) ∙ sym e6
+  pub refuse-6 : (r : Bool) → r ≡ falling p (h .n) → r ≡ true → Answer.Refused 6 ≡ checkPage p
+  refuse-6 r e t =
+      refused p 5 (pass-5 ∙ holds (falling p (count p)) 6 (after6 p) (ap (falling p) (sym (f .n-is)) ∙ sym e ∙ t))
 
-    pub refuse-6 : r6 ≡ true → Answer.Refused 6 ≡ checkPage p
-    refuse-6 t = refused p 5 (pass-5 ∙ holds (falling p (count p)) 6 (after6 p) (told-6 ∙ t))
+  pass-6 : falling p (h .n) ≡ false → pageRefusal p ≡ after6 p
+  pass-6 e = pass-5 ∙ passes (falling p (count p)) 6 (after6 p) (ap (falling p) (sym (f .n-is)) ∙ e)
 
-    module _ (t6 : r6 ≡ false) (r7 : Bool) (e7 : r7 ≡ misfit p (h .n)) where
-      pass-6 : pageRefusal p ≡ after6 p
-      pass-6 = pass-5 ∙ passes (falling p (count p)) 6 (after6 p) (told-6 ∙ t6)
+  pub refuse-7 : (r6 : Bool) → r6 ≡ falling p (h .n) → r6 ≡ false → (r : Bool) → r ≡ misfit p (h .n) → r ≡ true
+      → Answer.Refused 7 ≡ checkPage p
+  refuse-7 r6 e6 t6 r e t =
+      refused p 6
+      (pass-6 (sym e6 ∙ t6) ∙ holds (misfit p (count p)) 7 (after7 p) (ap (misfit p) (sym (f .n-is)) ∙ sym e ∙ t))
 
-      told-7 : misfit p (count p) ≡ r7
-      told-7 = ap (misfit p) (sym (f .n-is)) ∙ sym e7
+  pub shape-fits : (r6 : Bool) → r6 ≡ falling p (h .n) → r6 ≡ false → (r7 : Bool) → r7 ≡ misfit p (h .n) → r7 ≡ false
+      → ShapeFits p h
+  shape-fits r6 e6 t6 r7 e7 t7 = record { sizes = f; none-falls = sym e6 ∙ t6; none-misfits = sym e7 ∙ t7 }
 
-      pub refuse-7 : r7 ≡ true → Answer.Refused 7 ≡ checkPage p
-      refuse-7 t = refused p 6 (pass-6 ∙ holds (misfit p (count p)) 7 (after7 p) (told-7 ∙ t))
+module _ (p : List ℕ) (h : Numbers) (f : ShapeFits p h) where
+  pass-7 : pageRefusal p ≡ after7 p
+  pass-7 =
+      pass-6 p h (f .sizes) (f .none-falls)
+      ∙ passes (misfit p (count p)) 7 (after7 p) (ap (misfit p) (sym (f .sizes .n-is)) ∙ f .none-misfits)
 
-      module _ (t7 : r7 ≡ false) (r8 : Bool) (e8 : r8 ≡ unordered p (h .n)) where
-        pass-7 : pageRefusal p ≡ after7 p
-        pass-7 = pass-6 ∙ passes (misfit p (count p)) 7 (after7 p) (told-7 ∙ t7)
+  pub refuse-8 : unordered (keyOf p) (h .n) ≡ true → Answer.Refused 8 ≡ checkPage p
+  refuse-8 e =
+      refused p 7
+      (pass-7 ∙ holds (unordered (keyOf p) (count p)) 8 0 (ap (unordered (keyOf p)) (sym (f .sizes .n-is)) ∙ e))
 
-        told-8 : unordered p (count p) ≡ r8
-        told-8 = ap (unordered p) (sym (f .n-is)) ∙ sym e8
-
-        pub refuse-8 : r8 ≡ true → Answer.Refused 8 ≡ checkPage p
-        refuse-8 t = refused p 7 (pass-7 ∙ holds (unordered p (count p)) 8 0 (told-8 ∙ t))
-
-        pub accept : r8 ≡ false → Answer.Value (headerMeant h) ≡ checkPage p
-        unfolding checkPage unless headerOf
-        accept t =
-            let z : pageRefusal p ≡ 0 = pass-7 ∙ passes (unordered p (count p)) 8 0 (told-8 ∙ t) in
-            ap (λ (v : Header). Answer.Value v) same ∙ sym (ap (λ (k : ℕ). unless k (headerOf p)) z)
-          where
-            same : headerMeant h ≡ headerOf p
-            same = cc (f .number-is, f .n-is, f .m-is, f .q-is, f .bits-is)
+  pub accept : unordered (keyOf p) (h .n) ≡ false → Answer.Value (headerMeant h) ≡ checkPage p
+  unfolding checkPage unless headerOf
+  accept e =
+      let z : pageRefusal p ≡ 0 =
+      pass-7 ∙ passes (unordered (keyOf p) (count p)) 8 0 (ap (unordered (keyOf p)) (sym (f .sizes .n-is)) ∙ e) in
+      ap (λ (v : Header). Answer.Value v) same ∙ sym (ap (λ (k : ℕ). unless k (headerOf p)) z)
+    where
+      same : headerMeant h ≡ headerOf p
+      same = cc (f .sizes .number-is, f .sizes .n-is, f .sizes .m-is, f .sizes .q-is, f .sizes .bits-is)

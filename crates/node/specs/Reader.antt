@@ -1,11 +1,11 @@
 -- What the checking reader answers and writes, and what its parts tell each other. Document 01, "The page", and the
 -- refusals 1 to 8 and 16.
 -- In order: headerMeant checkedAnswer · entryAnswer pointerRead keyBytes · loaded · falling misfit unordered ·
--- SizesFit Sizing.
+-- SizesFit Sizing ShapeFits Shaping.
 -- Assumes nothing.
 use mathlib.Core.Path.{_≡_}
 use Prim.Native.Nat.{ℕ, suc, _+_, _-_, _*_, _≤_}
-use mathlib.Core.Bool.{Bool, _||_, not}
+use mathlib.Core.Bool.{Bool, false, _||_, not}
 use mathlib.Core.List.{List}
 use lib.Dec.{eqb, ltb}
 use lib.ListN.{length}
@@ -17,7 +17,6 @@ use Rattle.format.specs.Page.{
   Entry,
   endOf,
   startOf,
-  keyOf,
   entryBits,
   entries,
   pageNumber,
@@ -75,10 +74,10 @@ unfoldable pub misfit : List ℕ → ℕ → Bool
 unfolding some entryBits
 misfit p n = some n (λ i. eqb (entryBits p i) 0 || ltb 256 (entryBits p i))
 
--- Refusal 8 over the first n entries: a key is not above the one before.
-unfoldable pub unordered : List ℕ → ℕ → Bool
-unfolding some below keyOf
-unordered p n = some (n - 1) (λ i. not (below (keyOf p i) (keyOf p (suc i))))
+-- Refusal 8 over the keys f 0 to f (n - 1): one is not above the one before.
+unfoldable pub unordered : (ℕ → List ℕ) → ℕ → Bool
+unfolding some below
+unordered f n = some (n - 1) (λ i. not (below (f i) (f (suc i))))
 
 -- Refusals 1 to 5 do not hold, and h has the numbers of the header.
 pub record SizesFit (p : List ℕ) (h : Numbers) : Type 0 where
@@ -99,3 +98,14 @@ pub record SizesFit (p : List ℕ) (h : Numbers) : Type 0 where
 abbrev pub Sizing : List ℕ → Checked → Type 0
 Sizing p (Page h) = SizesFit p h
 Sizing p (Refused r) = checkedAnswer (Refused r) ≡ checkPage p
+
+-- Refusals 1 to 7 do not hold, and h has the numbers of the header.
+pub record ShapeFits (p : List ℕ) (h : Numbers) : Type 0 where
+  pub sizes : SizesFit p h
+  pub none-falls : falling p (h .n) ≡ false
+  pub none-misfits : misfit p (h .n) ≡ false
+
+-- What the tests for 1 to 7 tell: that, or what a check answers.
+abbrev pub Shaping : List ℕ → Checked → Type 0
+Shaping p (Page h) = ShapeFits p h
+Shaping p (Refused r) = checkedAnswer (Refused r) ≡ checkPage p

@@ -1,4 +1,4 @@
-// node.rs: the size formulas, the checking reader, and the builder's type.
-pub mod builder;
+// node.rs: the size formulas, the checking reader, and a page's sizes.
+pub mod layout;
 pub mod reader;
 pub mod sizes;

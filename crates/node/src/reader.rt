@@ -29,8 +29,9 @@ ghost use Rattle.format.specs.Page.{
   startOf,
 };
 ghost use Rattle.rows.specs.Keys.{keyBits};
-ghost use Rattle.rows.specs.Rows.{withRows};
+ghost use Rattle.rows.specs.Rows.{rowKey, rows, withRows};
 ghost use Rattle.node.specs.Reader.{
+  Shaping,
   SizesFit,
   Sizing,
   checkedAnswer,
@@ -42,7 +43,7 @@ ghost use Rattle.node.specs.Reader.{
   pointerRead,
   unordered,
 };
-use crate::builder::BranchNodeBuilder;
+use crate::layout;
 use format::refusal::Refusal;
 use rows::key::Key;
 use rows::table;
@@ -75,7 +76,7 @@ pub fn cell(page: &[u8], i: usize) -> usize
     if page.len() / 2 < i {
         return 0;
     }
-    words::le_u16(page, BranchNodeBuilder::HEADER_SIZE + 2 * i)
+    words::le_u16(page, layout::HEADER_SIZE + 2 * i)
 }
 
 // Where separator i starts.
@@ -90,7 +91,7 @@ fn node_pointer(page: &[u8], h: Header, i: usize) -> u64
     requires { ⌜ SizesFit (now page) h × (i < h .n) ⌝ }
     ensures answer { λ r. ⌜ r ≡ pointerOf (now (page .entry)) i ⌝ }
 {
-    words::le_u32(page, BranchNodeBuilder::PAGE_SIZE - 4 * h.n + 4 * i)
+    words::le_u32(page, layout::PAGE_SIZE - 4 * h.n + 4 * i)
 }
 
 // Refusal 6: an end offset is below the one before.
@@ -146,7 +147,7 @@ fn prefix(page: &[u8], h: Header) -> Key
     ensures answer { λ r. ⌜ keyBits r
         ≡ fill 256 (take (prefixLength (now (page .entry))) (body (now (page .entry)))) ⌝ }
 {
-    let start = 8 * (BranchNodeBuilder::HEADER_SIZE + 2 * h.n);
+    let start = 8 * (layout::HEADER_SIZE + 2 * h.n);
     Key::zero().with_bits(0, page, start, h.q)
 }
 
@@ -158,14 +159,14 @@ fn get_key(page: &[u8], h: Header, prefix: Key, i: usize, start: usize, end: usi
     ensures answer { λ r. ⌜ keyBits r ≡ keyOf (now (page .entry)) i ⌝ }
 {
     let len = words::over(end, start);
-    let bit = 8 * (BranchNodeBuilder::HEADER_SIZE + 2 * h.n) + h.q + start;
+    let bit = 8 * (layout::HEADER_SIZE + 2 * h.n) + h.q + start;
     prefix.with_bits(prefix_bits(h, i), page, bit, len)
 }
 
 // Refusal 8: the keys are not strictly ascending.
 fn keys_unordered(page: &[u8], h: Header) -> bool
     requires { ⌜ SizesFit (now page) h ⌝ }
-    ensures answer { λ r. ⌜ r ≡ unordered (now (page .entry)) (h .n) ⌝ }
+    ensures answer { λ r. ⌜ r ≡ unordered (keyOf (now (page .entry))) (h .n) ⌝ }
 {
     let n = h.n;
     let shared = prefix(page, h);
@@ -189,7 +190,7 @@ fn keys_unordered(page: &[u8], h: Header) -> bool
 fn sized(page: &[u8]) -> Checked
     ensures answer { λ r. ⌜ Sizing (now (page .entry)) r ⌝ }
 {
-    if page.len() != BranchNodeBuilder::PAGE_SIZE {
+    if page.len() != layout::PAGE_SIZE {
         return Checked::Refused(Refusal::PageLength);
     }
     let n = words::le_u16(page, 4);
@@ -207,11 +208,11 @@ fn sized(page: &[u8]) -> Checked
     if 256 < q {
         return Checked::Refused(Refusal::PrefixLength);
     }
-    if BranchNodeBuilder::BODY_SIZE < 6 * n {
+    if layout::BODY_SIZE < 6 * n {
         return Checked::Refused(Refusal::BodyTooLong);
     }
     let bits = q + cell(page, n - 1);
-    if BranchNodeBuilder::BODY_SIZE < 6 * n + (bits + 7) / 8 {
+    if layout::BODY_SIZE < 6 * n + (bits + 7) / 8 {
         return Checked::Refused(Refusal::BodyTooLong);
     }
     let number = words::le_u32(page, 0);
@@ -224,10 +225,9 @@ fn sized(page: &[u8]) -> Checked
     })
 }
 
-// Checks a page: its header, or the first of 1 to 8 that holds, each tested over all entries before
-// the next.
-pub fn check(page: &[u8]) -> Checked
-    ensures answer { λ r. ⌜ checkedAnswer r ≡ checkPage (now (page .entry)) ⌝ }
+// Refusals 1 to 7, or the header.
+fn shaped(page: &[u8]) -> Checked
+    ensures answer { λ r. ⌜ Shaping (now (page .entry)) r ⌝ }
 {
     match sized(page) {
         Checked::Refused(r) => Checked::Refused(r),
@@ -238,6 +238,19 @@ pub fn check(page: &[u8]) -> Checked
             if bits_misfit(page, h) {
                 return Checked::Refused(Refusal::EntryBits);
             }
+            Checked::Page(h)
+        }
+    }
+}
+
+// Checks a page: its header, or the first of 1 to 8 that holds, each tested over all entries before
+// the next.
+pub fn check(page: &[u8]) -> Checked
+    ensures answer { λ r. ⌜ checkedAnswer r ≡ checkPage (now (page .entry)) ⌝ }
+{
+    match shaped(page) {
+        Checked::Refused(r) => Checked::Refused(r),
+        Checked::Page(h) => {
             if keys_unordered(page, h) {
                 return Checked::Refused(Refusal::KeysNotAscending);
             }
@@ -286,16 +299,57 @@ fn fill_rows(page: &[u8], h: Header, t: &mut [u64])
     }
 }
 
+// Refusal 8 over the first n rows of a table.
+fn rows_unordered(t: &[u64], n: usize) -> bool
+    ensures answer { λ r. ⌜ r ≡ unordered (rowKey (now (t .entry))) n ⌝ }
+{
+    let mut last = table::key_of(t, 0);
+    let mut i: usize = 1;
+    while i < n {
+        let key = table::key_of(t, i);
+        if !last.less(key) {
+            return true;
+        }
+        last = key;
+        i += 1;
+    }
+    false
+}
+
+// The entries of a table's first n rows into the rows of another, with their positions.
+fn copy_rows(from: &[u64], n: usize, t: &mut [u64])
+    ensures written { λ _. ⌜ now (t .exit)
+        ≡ withRows (now (t .entry)) 0 (rows n (now (from .entry))) ⌝ }
+{
+    let mut i: usize = 0;
+    while i < n {
+        table::set_row(
+            t,
+            i,
+            table::key_of(from, i),
+            table::pointer_of(from, i),
+            i as u64,
+        );
+        i += 1;
+    }
+}
+
 // Checks a page and puts its entries into the first rows of a table, each with its position; those
-// past the table's last row are left out. The table is as it was after a refusal, 1 to 8.
+// past the table's last row are left out. The table is as it was after a refusal, 1 to 8: keys are
+// made once, into a table of its own, which is copied when all have been compared.
 pub fn load_page(page: &[u8], t: &mut [u64]) -> Checked
     ensures answer { λ r. ⌜ checkedAnswer r ≡ checkPage (now (page .entry)) ⌝ }
     ensures written { λ _. ⌜ now (t .exit) ≡ loaded (now (page .entry)) (now (t .entry)) ⌝ }
 {
-    match check(page) {
+    match shaped(page) {
         Checked::Refused(r) => Checked::Refused(r),
         Checked::Page(h) => {
-            fill_rows(page, h, t);
+            let mut own = [0u64; 4092];
+            fill_rows(page, h, &mut own);
+            if rows_unordered(&own, h.n) {
+                return Checked::Refused(Refusal::KeysNotAscending);
+            }
+            copy_rows(&own, h.n, t);
             Checked::Page(h)
         }
     }

@@ -1,61 +1,44 @@
 -- `node::reader::fill_rows` meets its contract. The loop's invariant: the table has the first i entries in its rows,
 -- and the next separator starts at `start`. The measure is what is left of n.
 -- Assumes nothing.
-use mathlib.Core.List.{List, [], _∷_, _++_}
-use mathlib.Core.Path.{_≡_, refl, sym, ap, ap₂, _∙_}
-use Prim.Native.Nat.{ℕ, suc, _+_, _-_, _≤_, _<_}
-use native.Mathlib.Numerals.{add-one}
-use native.Mathlib.Omega.{arith}
-use lib.ListN.{length}
-use Rattle.format.specs.Page.{Entry, count, each, entries, entryOf, keyOf, pointerOf, startOf}
-use Rattle.format.proofs.EntryLaws.{length-each}
+use mathlib.Core.List.{List}
+use mathlib.Core.Path.{_≡_, ap, ap₂, _∙_}
+use Prim.Native.Nat.{ℕ, _+_, _-_, _≤_, _<_}
+use Rattle.format.specs.Page.{Entry, count, each, endOf, entries, entryOf, keyOf, pointerOf, startOf}
 use Rattle.rows.specs.declared.key.Key.{Key}
 use Rattle.rows.specs.Keys.{keyBits}
 use Rattle.rows.specs.Rows.{withRow, withRows}
-use Rattle.rows.proofs.RowsLaws.{each-snoc, length-withRows, withRows-snoc}
 use Rattle.node.specs.declared.reader.Header.{Header}
 use Rattle.node.specs.Reader.{SizesFit}
 use Rattle.node.proofs.TestsLaws.{start-first, start-next}
+use Rattle.node.proofs.LoadedLaws.{Filled, filled-none, filled-more, filled-length, filled-all}
 use borrow.Author.Needs.{needs}
 use Rattle.node.proofs.reader.fill_rows.Statement.{statement}
 use Rattle.node.proofs.reader.fill_rows.Tie as tie
 
--- t is t₀ with the first i entries of p in its rows
-Filled : List ℕ → List ℕ → ℕ → List ℕ → Type 0
-Filled p t₀ i t = t ≡ withRows t₀ 0 (each i (entryOf p))
+begin : (p t : List ℕ) → Filled (entryOf p) t 0 t
+begin p t = filled-none (entryOf p) t
 
-begin : (p t : List ℕ) → Filled p t 0 t
-unfolding Filled withRows each
-begin p t = refl
-
-more : (p t₀ t u : List ℕ) (i : ℕ) (k : Key) (x : ℕ) → Filled p t₀ i t → keyBits k ≡ keyOf p i → x ≡ pointerOf p i
-    → u ≡ withRow t i (record { key = keyBits k; pointer = x }) i → Filled p t₀ (i + 1) u
-unfolding Filled entryOf
+-- one entry more in its row
+more : (p t₀ t u : List ℕ) (i : ℕ) (k : Key) (x : ℕ) → Filled (entryOf p) t₀ i t → keyBits k ≡ keyOf p i
+    → x ≡ pointerOf p i
+    → u ≡ withRow t i (record { key = keyBits k; pointer = x }) i → Filled (entryOf p) t₀ (i + 1) u
+unfolding entryOf
 more p t₀ t u i k x f ek ex eu =
-    let e : record { key = keyBits k; pointer = x } ≡ entryOf p i =
-    ap₂ (λ (y : List ℕ) (z : ℕ). record { key = y; pointer = z }) ek ex in
-    let n : i ≡ 0 + length (each i (entryOf p)) = omega (arith, length-each i (entryOf p)) in
-    eu ∙ ap₂ (λ (v : List ℕ) (y : Entry). withRow v i y i) f e
-    ∙ ap (λ (j : ℕ). withRow (withRows t₀ 0 (each i (entryOf p))) j (entryOf p i) j) n
-    ∙ sym (withRows-snoc t₀ 0 (each i (entryOf p)) (entryOf p i)) ∙ ap (withRows t₀ 0) (sym (each-snoc i (entryOf p)))
-    ∙ ap (λ (j : ℕ). withRows t₀ 0 (each j (entryOf p))) (sym (add-one i))
+    filled-more (entryOf p) t₀ t u i (record { key = keyBits k; pointer = x }) f
+    (ap₂ (λ (y : List ℕ) (z : ℕ). record { key = y; pointer = z }) ek ex) eu
 
-kept : (p t₀ t : List ℕ) (i : ℕ) → Filled p t₀ i t → length t ≡ length t₀
-unfolding Filled
-kept p t₀ t i f = ap length f ∙ length-withRows t₀ 0 (each i (entryOf p))
-
-end : (p t₀ t : List ℕ) (h : Header) (i : ℕ) → SizesFit p h → Filled p t₀ i t → i ≤ h .n → h .n ≤ i
+all : (p t₀ t : List ℕ) (h : Header) (i : ℕ) → SizesFit p h → Filled (entryOf p) t₀ i t → i ≤ h .n → h .n ≤ i
     → t ≡ withRows t₀ 0 (entries p)
-unfolding Filled entries
-end p t₀ t h i s f l l′ =
-    let e : i ≡ count p = omega (arith, s .n-is) in
-    f ∙ ap (λ (j : ℕ). withRows t₀ 0 (each j (entryOf p))) e
+unfolding entries
+all p t₀ t h i s f l l′ =
+    filled-all (entryOf p) t₀ t (h .n) i f l l′ ∙ ap (λ (n : ℕ). withRows t₀ 0 (each n (entryOf p))) (s .n-is)
 
-ruleset laws = (start-first, start-next, begin, more, kept, end)
+ruleset laws = (start-first, start-next, begin, more, filled-length, all)
 
 abbrev Inv-loop : tie.InvT-loop
 Inv-loop page h t₀ n shared start₀ i₀ t start i =
-    (i ≤ n) × (start < 65536) × (start ≡ startOf page i) × Filled page t₀ i t
+    (i ≤ n) × (start < 65536) × (start ≡ startOf page i) × Filled (entryOf page) t₀ i t
 
 abbrev μ-loop : tie.MeasureT-loop
 μ-loop page h t₀ n shared start₀ i₀ t start i = n - i

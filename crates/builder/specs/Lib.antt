@@ -1,0 +1,3 @@
+-- What the contracts of builder cite, as definitions. Read in this order.
+pub mod Writes
+pub mod Over

@@ -1,0 +1,3 @@
+// The page writer: document 01, "The page" and "The normal page", from a table of rows.
+mod kept;
+pub mod page;

@@ -1,0 +1,4 @@
+-- Laws of the walk. Read in this order.
+pub mod WalkingLaws
+pub mod WrittenLaws
+pub mod WalkLaws

@@ -1,0 +1,2 @@
+-- What the contracts of `undo` cite, as definitions.
+pub mod Walk
