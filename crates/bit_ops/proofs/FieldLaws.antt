@@ -13,7 +13,7 @@ use lib.Pow.{pow-pos, pow-add, split, shr-shr, mod-pow-add}
 use lib.Seq.{drop-append-add, drop-append-le, drop-at, drop-cons, drop-drop, getD-append-add, length-take-le, paste}
 use lib.Seq.{set-split, split-at, take-add, take-all, take-append-add, take-append-le, take-at, take-take}
 use Rattle.format.specs.Bits.{bits, bitsOf}
-use Rattle.format.proofs.BitsLaws.{bits-cat, bitsOf-append, length-bits, length-bitsOf}
+use Rattle.facts.proofs.BitsLaws.{bits-cat, bitsOf-append, length-bits, length-bitsOf}
 
 -- ---- one bit
 

@@ -17,9 +17,9 @@ use mir.Syntax.{w8}
 use mir.Val.{Fits}
 use Rattle.format.specs.Bits.{AllBelow, bitsOf, fill, pack}
 use Rattle.format.specs.Ranges.{inside, bitsCopied}
-use Rattle.format.proofs.BitsLaws.{allBelow-append, allBelow-bitsOf, allBelow-drop, allBelow-take, at-below}
-use Rattle.format.proofs.BitsLaws.{bitsOf-pack, bitsOf-zeros, fill-exact, fill-nil, fill-short, length-bitsOf, packed}
-use Rattle.format.proofs.BitsLaws.{take-fill}
+use Rattle.facts.proofs.BitsLaws.{allBelow-append, allBelow-bitsOf, allBelow-drop, allBelow-take, at-below}
+use Rattle.facts.proofs.BitsLaws.{bitsOf-pack, bitsOf-zeros, fill-exact, fill-nil, fill-short, length-bitsOf, packed}
+use Rattle.facts.proofs.BitsLaws.{take-fill}
 use Rattle.bit_ops.specs.Runs.{Moved}
 
 -- ---- ranges

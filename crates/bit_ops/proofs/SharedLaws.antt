@@ -9,8 +9,8 @@ use lib.ListN.{length, getD, drop, drop-of-length-le}
 use lib.Seq.{drop-cons}
 use Rattle.format.specs.Bits.{bits, bitsOf}
 use Rattle.format.specs.Key.{sharedBits}
-use Rattle.format.proofs.BitsLaws.{length-bitsOf}
-use Rattle.format.proofs.KeyLaws.{sharedBits-more, sharedBits-stop}
+use Rattle.facts.proofs.BitsLaws.{length-bitsOf}
+use Rattle.facts.proofs.KeyLaws.{sharedBits-more, sharedBits-stop}
 
 -- ---- one bit
 

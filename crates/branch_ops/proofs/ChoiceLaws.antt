@@ -19,8 +19,8 @@ use Rattle.format.specs.Bits.{bytesFor}
 use Rattle.format.specs.Key.{sharedBits, separatorLength}
 use Rattle.format.specs.Normal.{Choice, sum, candidate, bestUpTo, choice, firstKey, keys, fits}
 use Rattle.format.specs.Page.{Entry, bodyBytes}
-use Rattle.format.proofs.ChoiceLaws.{candidate-m, candidate-one, candidate-shared, candidate-sum}
-use Rattle.format.proofs.EntryLaws.{Ascending, firstKey-at, keys-at, length-keys}
+use Rattle.facts.proofs.ChoiceLaws.{candidate-m, candidate-one, candidate-shared, candidate-sum}
+use Rattle.facts.proofs.EntryLaws.{Ascending, firstKey-at, keys-at, length-keys}
 use Rattle.rows.specs.declared.key.Key.{Key}
 use Rattle.rows.specs.Keys.{keyBits}
 use Rattle.rows.specs.Rows.{rowKey, rowEntry, rows}

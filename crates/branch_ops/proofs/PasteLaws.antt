@@ -29,7 +29,7 @@ use lib.Seq.{
   paste,
 }
 use Rattle.format.specs.Bits.{bits, bitsOf}
-use Rattle.format.proofs.BitsLaws.{length-bits, bits-cat, bitsOf-append, length-bitsOf}
+use Rattle.facts.proofs.BitsLaws.{length-bits, bits-cat, bitsOf-append, length-bitsOf}
 
 -- ---- a field of a number
 

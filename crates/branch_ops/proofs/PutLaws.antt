@@ -10,7 +10,7 @@ use lib.ListN.{length, take, drop, set, length-append}
 use lib.Seq.{paste, paste-zero, length-paste, set-split}
 use Rattle.format.specs.Bits.{bits, bitsOf, AllBelow}
 use Rattle.format.specs.Edit.{editBits}
-use Rattle.format.proofs.BitsLaws.{length-bits, length-bitsOf, bits-mod, allBelow-append, allBelow-take, allBelow-drop}
+use Rattle.facts.proofs.BitsLaws.{length-bits, length-bitsOf, bits-mod, allBelow-append, allBelow-take, allBelow-drop}
 use Rattle.words.proofs.NumberLaws.{take-bits}
 use Rattle.rows.specs.declared.key.Key.{Key}
 use Rattle.rows.specs.Keys.{keyBits}

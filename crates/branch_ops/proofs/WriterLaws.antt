@@ -18,7 +18,7 @@ use mir.Val.{Fits}
 use Rattle.format.specs.Bits.{bits, bitsOf, pack, bytesFor, AllBelow}
 use Rattle.format.specs.Edit.{Edit, WellFormed, AllWellFormed, editBits, editsBits, recordOf}
 use Rattle.format.specs.Edit.Edit.{Insert, Update, Keep}
-use Rattle.format.proofs.BitsLaws.{
+use Rattle.facts.proofs.BitsLaws.{
   allBelow-append,
   allBelow-bits,
   allBelow-bitsOf,
@@ -39,7 +39,7 @@ use Rattle.format.proofs.BitsLaws.{
   pack-zeros,
   packed,
 }
-use Rattle.format.proofs.RecordLaws.{editsBits-append, headed, recordOf-pack, length-editBits}
+use Rattle.facts.proofs.RecordLaws.{editsBits-append, headed, recordOf-pack, length-editBits}
 use Rattle.words.proofs.NumberLaws.{bits-zero}
 use Rattle.words.proofs.WindowLaws.{drop-append, drop-take}
 use Rattle.branch_ops.specs.declared.writer.RecordWriter.{RecordWriter}

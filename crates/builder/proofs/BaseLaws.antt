@@ -14,9 +14,9 @@ use Rattle.format.specs.Bits.{bitsOf, fill}
 use Rattle.format.specs.Key.{separatorLength}
 use Rattle.format.specs.Page.{count, compressed, prefixLength, startOf, storedLength, body, separatorOf, keyOf}
 use Rattle.format.specs.Normal.{pageUnder}
-use Rattle.format.proofs.AcceptedLaws.{Accepted, accepted-pageRefusal, length-prefix}
-use Rattle.format.proofs.BitsLaws.{fill-short, length-bitsOf}
-use Rattle.format.proofs.PageLaws.{entryBits-compressed, prefixOf-compressed, startOf-suc, storedLength-is}
+use Rattle.facts.proofs.AcceptedLaws.{Accepted, accepted-pageRefusal, length-prefix}
+use Rattle.facts.proofs.BitsLaws.{fill-short, length-bitsOf}
+use Rattle.facts.proofs.PageLaws.{entryBits-compressed, prefixOf-compressed, startOf-suc, storedLength-is}
 use Rattle.bit_ops.proofs.FieldLaws.{bitsOf-drop}
 use Rattle.rows.specs.Rows.{rows, rowKey, rowSource}
 use Rattle.builder.specs.Writes.{ownBits, laidOut, Wrote}

@@ -12,8 +12,8 @@ use Rattle.format.specs.Bits.{pack, le}
 use Rattle.format.specs.Page.{bodyBytes}
 use Rattle.format.specs.Normal.{words, running, sum, pointers}
 use Rattle.rows.specs.Rows.{rows}
-use Rattle.format.proofs.BitsLaws.{length-pack, bytesFor-holds}
-use Rattle.format.proofs.StoredLaws.{length-running, length-words}
+use Rattle.facts.proofs.BitsLaws.{length-pack, bytesFor-holds}
+use Rattle.facts.proofs.StoredLaws.{length-running, length-words}
 use Rattle.parts.specs.Parts.{rowLengths, headerBytes}
 use Rattle.builder.specs.Writes.{rowBits, laidOut}
 use Rattle.parts.specs.Parts.{withHeader, withOffsets, withPointers}

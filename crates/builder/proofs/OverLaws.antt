@@ -15,9 +15,9 @@ use Rattle.format.specs.Bits.{bitsOf, unle}
 use Rattle.format.specs.Key.{separatorLength}
 use Rattle.format.specs.Page.{endOf, startOf}
 use Rattle.format.specs.Normal.{sum}
-use Rattle.format.proofs.BitsLaws.{length-bitsOf}
-use Rattle.format.proofs.PageLaws.{startOf-suc, startOf-zero}
-use Rattle.format.proofs.StoredLaws.{sum-take-suc, sum-take-le}
+use Rattle.facts.proofs.BitsLaws.{length-bitsOf}
+use Rattle.facts.proofs.PageLaws.{startOf-suc, startOf-zero}
+use Rattle.facts.proofs.StoredLaws.{sum-take-suc, sum-take-le}
 use Rattle.format.specs.declared.refusal.Outcome.{Outcome}
 use Rattle.bit_ops.specs.Calls.{Copied}
 use Rattle.parts.proofs.BitLaws.{copied}

@@ -11,9 +11,9 @@ use lib.Seq.{paste, take-paste}
 use Rattle.format.specs.Bits.{bitsOf, pack}
 use Rattle.format.specs.Key.{IsKey, separatorLength}
 use Rattle.format.specs.Normal.{sum}
-use Rattle.format.proofs.BitsLaws.{length-bitsOf}
-use Rattle.format.proofs.KeyLaws.{separatorLength-bound}
-use Rattle.format.proofs.StoredLaws.{sum-take-le, sum-take-suc}
+use Rattle.facts.proofs.BitsLaws.{length-bitsOf}
+use Rattle.facts.proofs.KeyLaws.{separatorLength-bound}
+use Rattle.facts.proofs.StoredLaws.{sum-take-le, sum-take-suc}
 use Rattle.rows.specs.Rows.{rowKey}
 use Rattle.parts.specs.Parts.{leftOut, rowLengths, cleared, withKey}
 use Rattle.parts.proofs.BitLaws.{bitsOf-withKey}

@@ -13,9 +13,9 @@ use Rattle.format.specs.Bits.{bytesFor, le, pack}
 use Rattle.format.specs.Page.{Entry, bodyBytes}
 use Rattle.format.specs.Normal.{choice, fits, keys, normalPage, pageUnder, pointers, running}
 use Rattle.format.specs.Normal.{storedLengths, sum, words}
-use Rattle.format.proofs.ChoiceLaws.{choice-permitted, fits-true, permitted-shared}
-use Rattle.format.proofs.EntryLaws.{length-keys}
-use Rattle.format.proofs.StoredLaws.{sharedByAll-bound}
+use Rattle.facts.proofs.ChoiceLaws.{choice-permitted, fits-true, permitted-shared}
+use Rattle.facts.proofs.EntryLaws.{length-keys}
+use Rattle.facts.proofs.StoredLaws.{sharedByAll-bound}
 use Rattle.rows.specs.Rows.{rows, rowKey}
 use Rattle.rows.proofs.RowsLaws.{length-rows}
 use Rattle.parts.proofs.PartLaws.{storedSum-in}

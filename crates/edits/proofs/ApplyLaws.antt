@@ -37,11 +37,11 @@ use Rattle.format.specs.Edit.Edit.{Insert, Update, Keep}
 use Rattle.format.specs.Key.{IsKey, below}
 use Rattle.format.specs.Normal.{keys}
 use Rattle.format.specs.Page.{Entry, each}
-use Rattle.format.proofs.AnswerLaws.{and-left, and-right, first-stop, noneHolds-first}
-use Rattle.format.proofs.BitsLaws.{allBelow-bitsOf, allBelow-drop}
-use Rattle.format.proofs.EditLaws.{outside-keep, outside-update, anyOutside-head, anyOutside-tail}
-use Rattle.format.proofs.EntryLaws.{Ascending, AreKeys, areKeys-at, ascending-next, each-at, keys-at, length-keys}
-use Rattle.format.proofs.RecordLaws.{readEdits-written, readRecord-bits}
+use Rattle.facts.proofs.AnswerLaws.{and-left, and-right, first-stop, noneHolds-first}
+use Rattle.facts.proofs.BitsLaws.{allBelow-bitsOf, allBelow-drop}
+use Rattle.facts.proofs.EditLaws.{outside-keep, outside-update, anyOutside-head, anyOutside-tail}
+use Rattle.facts.proofs.EntryLaws.{Ascending, AreKeys, areKeys-at, ascending-next, each-at, keys-at, length-keys}
+use Rattle.facts.proofs.RecordLaws.{readEdits-written, readRecord-bits}
 use Rattle.rows.specs.Keys.{keyBits}
 use Rattle.rows.specs.Rows.{rowKey, rowSource, rowEntry, rows, withRow}
 use Rattle.rows.proofs.KeysLaws.{isKey-keyBits}

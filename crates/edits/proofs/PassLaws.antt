@@ -16,7 +16,7 @@ use Rattle.format.specs.Build.{editsOf}
 use Rattle.format.specs.Edit.{Edit, editBits, fieldBits, readRecord}
 use Rattle.format.specs.Key.{below}
 use Rattle.format.specs.Page.{Entry}
-use Rattle.format.proofs.RecordLaws.{kind}
+use Rattle.facts.proofs.RecordLaws.{kind}
 use Rattle.rows.specs.declared.key.Key.{Key}
 use Rattle.rows.specs.Keys.{keyBits}
 use Rattle.rows.specs.Rows.{rowKey, rowPointer, rowEntry, withRow}

@@ -46,8 +46,8 @@ use Rattle.format.specs.Edit.{
   anyOutside,
 }
 use Rattle.format.specs.Edit.Edit.{Insert, Update, Keep}
-use Rattle.format.proofs.AnswerLaws.{and-left}
-use Rattle.format.proofs.BitsLaws.{
+use Rattle.facts.proofs.AnswerLaws.{and-left}
+use Rattle.facts.proofs.BitsLaws.{
   length-bits,
   length-bitsOf,
   allBelow-bitsOf,
@@ -64,7 +64,7 @@ use Rattle.format.proofs.BitsLaws.{
   fill-short,
   take-fill,
 }
-use Rattle.format.proofs.RecordLaws.{kind, step, readEdits-suc, readEdits-zero, readRecord-bits}
+use Rattle.facts.proofs.RecordLaws.{kind, step, readEdits-suc, readEdits-zero, readRecord-bits}
 use Rattle.words.proofs.NumberLaws.{bits-split, take-bits}
 use Rattle.words.proofs.WindowLaws.{drop-fill}
 use Rattle.rows.specs.declared.key.Key.{Key}

@@ -1,20 +1,4 @@
--- Laws of the definitions of specs/, each stated once, and worked cases by computation. Read in this order.
-pub mod AnswerLaws
-pub mod BitsLaws
-pub mod KeyLaws
-pub mod RangesLaws
-pub mod EntryLaws
-pub mod StoredLaws
-pub mod ChoiceLaws
-pub mod SizesLaws
-pub mod PageLaws
-pub mod AcceptedLaws
-pub mod NormalLaws
-pub mod RecordLaws
-pub mod EditLaws
-pub mod UndoLaws
-pub mod WalkLaws
-pub mod BuildLaws
+-- Worked cases of the definitions of specs/, by computation. Read in this order. Their laws: crate `facts`.
 pub mod Samples
 pub mod Table
 pub mod Sides

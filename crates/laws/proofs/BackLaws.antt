@@ -20,14 +20,14 @@ use Rattle.format.specs.Normal.{fits, normalPage}
 use Rattle.format.specs.Edit.{Edit, anyOutside, apply, ascending, readRecord}
 use Rattle.format.specs.Undo.{undoEdits, undoRecord}
 use Rattle.format.specs.Build.{Built, Numbers, accepted, build}
-use Rattle.format.proofs.ChoiceLaws.{fits-most}
-use Rattle.format.proofs.PageLaws.{entries-sound, length-entries, pageNumber-bound}
-use Rattle.format.proofs.AcceptedLaws.{Accepted, accepted-pageRefusal, entries-ascending, entries-fit}
-use Rattle.format.proofs.NormalLaws.{entries-normalPage, pageRefusal-normalPage}
-use Rattle.format.proofs.RecordLaws.{readRecord-accepted, readRecord-recordOf}
-use Rattle.format.proofs.EditLaws.{length-apply, sound-apply}
-use Rattle.format.proofs.UndoLaws.{allWellFormed-undoEdits, anyOutside-undoEdits, apply-undoEdits, length-undoEdits, length-undoRecord, undoEdits-some, undoRecord-edits, undoRecord-nil}
-use Rattle.format.proofs.BuildLaws.{Acceptable, Done, accepted-answer, accepted-page, accepted-undo, build-acceptable, build-accepts, build-done, value-same}
+use Rattle.facts.proofs.ChoiceLaws.{fits-most}
+use Rattle.facts.proofs.PageLaws.{entries-sound, length-entries, pageNumber-bound}
+use Rattle.facts.proofs.AcceptedLaws.{Accepted, accepted-pageRefusal, entries-ascending, entries-fit}
+use Rattle.facts.proofs.NormalLaws.{entries-normalPage, pageRefusal-normalPage}
+use Rattle.facts.proofs.RecordLaws.{readRecord-accepted, readRecord-recordOf}
+use Rattle.facts.proofs.EditLaws.{length-apply, sound-apply}
+use Rattle.facts.proofs.UndoLaws.{allWellFormed-undoEdits, anyOutside-undoEdits, apply-undoEdits, length-undoEdits, length-undoRecord, undoEdits-some, undoRecord-edits, undoRecord-nil}
+use Rattle.facts.proofs.BuildLaws.{Acceptable, Done, accepted-answer, accepted-page, accepted-undo, build-acceptable, build-accepts, build-done, value-same}
 use Rattle.laws.specs.Theorems.{again, Gives}
 
 -- ---- entries that a normal page holds

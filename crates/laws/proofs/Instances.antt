@@ -23,10 +23,10 @@ use Rattle.format.specs.Edit.{AllWellFormed, Edit, anyOutside, apply, ascending
 use Rattle.format.specs.Edit.Edit.{Insert, Keep, Update}
 use Rattle.format.specs.Undo.{undoEdits}
 use Rattle.format.specs.Build.{Numbers, build, buildTests, refused}
-use Rattle.format.proofs.BitsLaws.{allBelow-append, allBelow-bits, allBelow-replicate, length-bits}
-use Rattle.format.proofs.KeyLaws.{isKey-bitsOf}
-use Rattle.format.proofs.EntryLaws.{sound-append, sound-each}
-use Rattle.format.proofs.NormalLaws.{Laid, allBelow-pageUnder}
+use Rattle.facts.proofs.BitsLaws.{allBelow-append, allBelow-bits, allBelow-replicate, length-bits}
+use Rattle.facts.proofs.KeyLaws.{isKey-bitsOf}
+use Rattle.facts.proofs.EntryLaws.{sound-append, sound-each}
+use Rattle.facts.proofs.NormalLaws.{Laid, allBelow-pageUnder}
 use Rattle.format.proofs.Samples.{full, hex, key, lastKey, long, two, zeros}
 use Rattle.laws.specs.Words.{Between, CopiedFrom, LengthOf, SharedBy}
 use Rattle.laws.specs.Theorems.{Accepts, Gives, Lent, Once, ReadsAs, Rising, again}

@@ -20,17 +20,17 @@ use Rattle.format.specs.Normal.{sum, Permitted, storedLengths, keys, normalPage
 use Rattle.format.specs.Edit.{Edit, noEntry, apply, ascending}
 use Rattle.format.specs.Undo.{undoEdits}
 use Rattle.format.specs.Build.{Numbers, Built, buildTests, build}
-use Rattle.format.proofs.AnswerLaws.{Numbered, first-holds, firstHolds-first, numbered-append, unless-firstHolds, unless-refused}
-use Rattle.format.proofs.KeyLaws.{below-value-key, separatorLength-bound, separatorLength-last, separatorLength-positive, separatorLength-zero, sharedBits-all, sharedBits-bound, sharedBits-differ, sharedBits-take, value-below-key, value-inj-key}
-use Rattle.format.proofs.RangesLaws.{allBelow-bitsCopied, below-separator, bitCopy-value, bitsCopied-before, bitsCopied-behind, bitsCopied-inner, isKey-separator, length-bitsCopied, separate-value, separator-not-above}
-use Rattle.format.proofs.EntryLaws.{Ascending, ascending-keys, length-keys}
-use Rattle.format.proofs.ChoiceLaws.{permitted-longer, bitsUnder-sum, choice-best, choice-permitted, choice-bits, choice-last, choice-fewest, fits-false}
-use Rattle.format.proofs.SizesLaws.{storedFromWhole-stored, wholeFromStored-stored}
-use Rattle.format.proofs.AcceptedLaws.{accepted-pageRefusal, readEntry-outside, entries-fewest, numbered-pageTests}
-use Rattle.format.proofs.NormalLaws.{length-normalPage, allBelow-normalPage, pageNumber-normalPage, count-normalPage, entries-normalPage, pageRefusal-normalPage, checkPage-normalPage, readEntry-normalPage}
-use Rattle.format.proofs.RecordLaws.{AcceptedRecord, readRecord-recordOf, readRecord-accepted}
-use Rattle.format.proofs.UndoLaws.{apply-undoEdits, anyOutside-undoEdits, length-undoEdits, undoEdits-apart, undoEdits-some}
-use Rattle.format.proofs.BuildLaws.{Acceptable, Done, NotDone, noneHolds-buildTests, acceptable-buildTests, build-accepts, build-acceptable, accepted-answer, build-done, build-refused, build-firstHolds, build-same-entries, build-no-edits, refused-answer}
+use Rattle.facts.proofs.AnswerLaws.{Numbered, first-holds, firstHolds-first, numbered-append, unless-firstHolds, unless-refused}
+use Rattle.facts.proofs.KeyLaws.{below-value-key, separatorLength-bound, separatorLength-last, separatorLength-positive, separatorLength-zero, sharedBits-all, sharedBits-bound, sharedBits-differ, sharedBits-take, value-below-key, value-inj-key}
+use Rattle.facts.proofs.RangesLaws.{allBelow-bitsCopied, below-separator, bitCopy-value, bitsCopied-before, bitsCopied-behind, bitsCopied-inner, isKey-separator, length-bitsCopied, separate-value, separator-not-above}
+use Rattle.facts.proofs.EntryLaws.{Ascending, ascending-keys, length-keys}
+use Rattle.facts.proofs.ChoiceLaws.{permitted-longer, bitsUnder-sum, choice-best, choice-permitted, choice-bits, choice-last, choice-fewest, fits-false}
+use Rattle.facts.proofs.SizesLaws.{storedFromWhole-stored, wholeFromStored-stored}
+use Rattle.facts.proofs.AcceptedLaws.{accepted-pageRefusal, readEntry-outside, entries-fewest, numbered-pageTests}
+use Rattle.facts.proofs.NormalLaws.{length-normalPage, allBelow-normalPage, pageNumber-normalPage, count-normalPage, entries-normalPage, pageRefusal-normalPage, checkPage-normalPage, readEntry-normalPage}
+use Rattle.facts.proofs.RecordLaws.{AcceptedRecord, readRecord-recordOf, readRecord-accepted}
+use Rattle.facts.proofs.UndoLaws.{apply-undoEdits, anyOutside-undoEdits, length-undoEdits, undoEdits-apart, undoEdits-some}
+use Rattle.facts.proofs.BuildLaws.{Acceptable, Done, NotDone, noneHolds-buildTests, acceptable-buildTests, build-accepts, build-acceptable, accepted-answer, build-done, build-refused, build-firstHolds, build-same-entries, build-no-edits, refused-answer}
 use Rattle.laws.proofs.BackLaws.{Held, held-base, build-back, build-back-normal, build-forth, build-undo-bound, build-no-base}
 use Rattle.laws.specs.Words.{OrderWords, LengthWords, SharedWords, SeparateWords, Between, CopyWords, CopiedFrom}
 use Rattle.laws.specs.Theorems.{Rising, ReadBack, CheckedBack, Fewest, Tie, PermittedChoice, Room, LaterLonger, SumFormula, StoredFromWhole, WholeFromStored, BaseFits, BaseBits, RecordBack, RecordOwn, UndoApplies, UndoInside, UndoCount, UndoRuns, UndoBound, FirstPageRefusal, FirstEntryRefusal, FirstRefusal, AcceptedExactly, Untouched, AcceptedBuild, Accepts, UndoKept, SameEntries, Back, BackNormal, Forth, NoBase, NoEdits}

@@ -12,9 +12,9 @@ use Rattle.format.specs.Answer.{Answer, afterwards, unless}
 use Rattle.format.specs.Key.{IsKey}
 use Rattle.format.specs.Normal.{keys}
 use Rattle.format.specs.Page.{Entry, Header, checkPage, count, each, entries, entryOf, headerOf, keyOf, pageRefusal}
-use Rattle.format.proofs.AcceptedLaws.{Accepted, accepted-pageRefusal}
-use Rattle.format.proofs.EntryLaws.{AreKeys, length-each}
-use Rattle.format.proofs.PageLaws.{keyOf-key, length-entries}
+use Rattle.facts.proofs.AcceptedLaws.{Accepted, accepted-pageRefusal}
+use Rattle.facts.proofs.EntryLaws.{AreKeys, length-each}
+use Rattle.facts.proofs.PageLaws.{keyOf-key, length-entries}
 use Rattle.rows.specs.Rows.{rowSource, rows, withRow, withRows}
 use Rattle.rows.proofs.RowsLaws.{each-snoc, length-withRows, rows-withRows, rowSource-withRows, withRows-snoc}
 use Rattle.node.specs.declared.reader.Header.{Header as Numbers}

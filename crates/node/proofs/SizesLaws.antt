@@ -8,7 +8,7 @@ use native.Mathlib.Omega.{arith}
 use native.Mathlib.Decide.{decLe}
 use Rattle.format.specs.Answer.{Answer}
 use Rattle.format.specs.Sizes.{difference}
-use Rattle.format.proofs.SizesLaws.{difference-value, difference-below, difference-past}
+use Rattle.facts.proofs.SizesLaws.{difference-value, difference-below, difference-past}
 
 -- ---- a difference
 

@@ -32,8 +32,8 @@ use Rattle.format.specs.Page.{
   prefixLength,
   startOf,
 }
-use Rattle.format.proofs.AnswerLaws.{or-false, some-false, some-false-at}
-use Rattle.format.proofs.PageLaws.{startOf-zero, startOf-suc}
+use Rattle.facts.proofs.AnswerLaws.{or-false, some-false, some-false-at}
+use Rattle.facts.proofs.PageLaws.{startOf-zero, startOf-suc}
 use Rattle.rows.specs.declared.key.Key.{Key}
 use Rattle.rows.specs.Keys.{keyBits}
 use Rattle.node.specs.declared.reader.Header.{Header as Numbers}

@@ -15,10 +15,10 @@ use Rattle.format.specs.Bits.{bitsOf, pack}
 use Rattle.format.specs.Key.{IsKey}
 use Rattle.format.specs.Ranges.{bitCopy, inside}
 use Rattle.format.specs.declared.refusal.Outcome.{Outcome}
-use Rattle.format.proofs.BitsLaws.{bitsOf-append, bitsOf-pack, bitsOf-zeros, fill-exact, length-bitsOf}
-use Rattle.format.proofs.BitsLaws.{length-pack, take-zeros}
-use Rattle.format.proofs.BitsLaws.{allBelow-bitsOf, allBelow-take, at-below, pack-bitsOf, pack-zeros, packed}
-use Rattle.format.proofs.RangesLaws.{bitsOf-bitsCopied}
+use Rattle.facts.proofs.BitsLaws.{bitsOf-append, bitsOf-pack, bitsOf-zeros, fill-exact, length-bitsOf}
+use Rattle.facts.proofs.BitsLaws.{length-pack, take-zeros}
+use Rattle.facts.proofs.BitsLaws.{allBelow-bitsOf, allBelow-take, at-below, pack-bitsOf, pack-zeros, packed}
+use Rattle.facts.proofs.RangesLaws.{bitsOf-bitsCopied}
 use Rattle.bit_ops.specs.Calls.{Copied}
 use Rattle.bit_ops.proofs.FieldLaws.{bitsOf-take}
 use Rattle.bit_ops.proofs.RunLaws.{end-inside}

@@ -9,7 +9,7 @@ use lib.ListN.{length, take, drop, set, length-set}
 use lib.ListN.{length-append}
 use lib.Seq.{paste, sets-eq, take-all, take-at, drop-at, drop-drop}
 use Rattle.format.specs.Bits.{le}
-use Rattle.format.proofs.BitsLaws.{length-le}
+use Rattle.facts.proofs.BitsLaws.{length-le}
 use Rattle.parts.specs.Parts.{headerBytes, withHeader}
 
 -- ---- numbers

@@ -12,8 +12,8 @@ use lib.Seq.{paste, take-paste, length-paste, drop-cons, take-all}
 use Rattle.format.specs.Bits.{le}
 use Rattle.format.specs.Key.{separatorLength}
 use Rattle.format.specs.Normal.{words, running, sum, pointers}
-use Rattle.format.proofs.BitsLaws.{length-le}
-use Rattle.format.proofs.StoredLaws.{length-running, running-at, sum-take-suc}
+use Rattle.facts.proofs.BitsLaws.{length-le}
+use Rattle.facts.proofs.StoredLaws.{length-running, running-at, sum-take-suc}
 use Rattle.rows.specs.Rows.{rowKey, rowPointer, rows}
 use Rattle.parts.specs.Parts.{leftOut, rowLengths, storedSum, withOffsets, withPointers}
 use Rattle.parts.proofs.RowLaws.{length-rowPointers, rowPointers-at, length-rowLengths}

@@ -13,8 +13,8 @@ use lib.Seq.{drop-cons}
 use Rattle.format.specs.Key.{IsKey, separatorLength}
 use Rattle.format.specs.Page.{Entry}
 use Rattle.format.specs.Normal.{pointers, storedLengths}
-use Rattle.format.proofs.EntryLaws.{length-keys, length-pointers, keys-at, pointers-at}
-use Rattle.format.proofs.StoredLaws.{length-storedLengths, storedLengths-compressed, storedLengths-plain}
+use Rattle.facts.proofs.EntryLaws.{length-keys, length-pointers, keys-at, pointers-at}
+use Rattle.facts.proofs.StoredLaws.{length-storedLengths, storedLengths-compressed, storedLengths-plain}
 use Rattle.rows.specs.Keys.{keyBits}
 use Rattle.rows.specs.Rows.{rowKey, rowPointer, rowEntry, rows}
 use Rattle.rows.proofs.KeysLaws.{isKey-keyBits}

@@ -18,8 +18,8 @@ use lib.Pow.{pow-pos, split, shr-lt, shr-mono, shr-shr}
 use lib.ListN.{length}
 use Rattle.format.specs.Bits.{bits}
 use Rattle.format.specs.Key.{lastSet, reach, below, sharedBits}
-use Rattle.format.proofs.BitsLaws.{length-bits, bits-mod}
-use Rattle.format.proofs.KeyLaws.{below-less, below-more, below-same, below-prefix, sharedBits-more, sharedBits-stop}
+use Rattle.facts.proofs.BitsLaws.{length-bits, bits-mod}
+use Rattle.facts.proofs.KeyLaws.{below-less, below-more, below-same, below-prefix, sharedBits-more, sharedBits-stop}
 
 -- the lowest bit is the last
 pub bits-snoc : (w n : ℕ) → bits (suc w) n ≡ bits w (n / 2) ++ (n % 2 ∷ [])

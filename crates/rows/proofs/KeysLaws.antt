@@ -9,7 +9,7 @@ use lib.ListN.{length, take, drop, length-append}
 use lib.Seq.{take-at, drop-at, drop-drop, take-all}
 use Rattle.format.specs.Bits.{bits, value, AllBelow}
 use Rattle.format.specs.Key.{IsKey}
-use Rattle.format.proofs.BitsLaws.{length-bits, allBelow-bits, allBelow-append, value-of-bits}
+use Rattle.facts.proofs.BitsLaws.{length-bits, allBelow-bits, allBelow-append, value-of-bits}
 use Rattle.rows.specs.declared.key.Key.{Key}
 use Rattle.rows.specs.Keys.{keyBits}
 

@@ -18,8 +18,8 @@ use Rattle.format.specs.Bits.{bits, value, AllBelow}
 use Rattle.format.specs.Key.{IsKey}
 use Rattle.format.specs.Normal.{keys}
 use Rattle.format.specs.Page.{Entry, each}
-use Rattle.format.proofs.BitsLaws.{bits-value, allBelow-take, allBelow-drop}
-use Rattle.format.proofs.EntryLaws.{length-each, getD-each, each-at, entry-same, AreKeys}
+use Rattle.facts.proofs.BitsLaws.{bits-value, allBelow-take, allBelow-drop}
+use Rattle.facts.proofs.EntryLaws.{length-each, getD-each, each-at, entry-same, AreKeys}
 use Rattle.rows.specs.Rows.{rowKey, rowPointer, rowSource, rowEntry, rows, rowWords, withRow, withRows}
 
 -- ---- each

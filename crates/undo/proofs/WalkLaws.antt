@@ -18,10 +18,10 @@ use Rattle.format.specs.Page.{Entry, Sound}
 use Rattle.format.specs.Edit.{Edit, ascending, ascendingFrom, noEntry}
 use Rattle.format.specs.Edit.Edit.{Insert, Update, Keep}
 use Rattle.format.specs.Undo.{bring, joined, undoEdits}
-use Rattle.format.proofs.AnswerLaws.{and-left, and-right}
-use Rattle.format.proofs.KeyLaws.{below-false, below-value-key}
-use Rattle.format.proofs.UndoLaws.{undoEdits-cons, undoEdits-nil}
-use Rattle.format.proofs.WalkLaws.{Others, bring-absent, bring-end, bring-keep, bring-others, bring-update}
+use Rattle.facts.proofs.AnswerLaws.{and-left, and-right}
+use Rattle.facts.proofs.KeyLaws.{below-false, below-value-key}
+use Rattle.facts.proofs.UndoLaws.{undoEdits-cons, undoEdits-nil}
+use Rattle.facts.proofs.WalkLaws.{Others, bring-absent, bring-end, bring-keep, bring-others, bring-update}
 use Rattle.undo.specs.Walk.{after, meet, skipped, walk}
 
 -- ---- entries that are passed over

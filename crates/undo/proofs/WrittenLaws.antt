@@ -15,7 +15,7 @@ use Rattle.format.specs.Page.{Entry}
 use Rattle.format.specs.Edit.{Edit}
 use Rattle.format.specs.Edit.Edit.{Insert, Update, Keep}
 use Rattle.format.specs.Undo.{joined}
-use Rattle.format.proofs.WalkLaws.{joined-ends, joined-grows}
+use Rattle.facts.proofs.WalkLaws.{joined-ends, joined-grows}
 use Rattle.branch_ops.specs.Writer.{Writing, pushedAll}
 use Rattle.undo.specs.Walk.{Walking, after, begun, closed, kept, meet, met, othered, skipped, stepped, walk, walked}
 

@@ -11,7 +11,7 @@ use lib.Pow.{pow-pos, split, low, shl-shr, mod-pow-add}
 use lib.ListN.{take, replicate}
 use lib.Seq.{take-at}
 use Rattle.format.specs.Bits.{bits}
-use Rattle.format.proofs.BitsLaws.{length-bits, bits-cat}
+use Rattle.facts.proofs.BitsLaws.{length-bits, bits-cat}
 
 -- its first j bits, and the k that follow
 pub bits-split : (j k n : ℕ) → bits (j + k) n ≡ bits j (n / 2 ^ k) ++ bits k (n % 2 ^ k)

@@ -25,7 +25,7 @@ use lib.ListN.{
 }
 use lib.Seq.{take-at, drop-at, take-all, take-append-add, drop-append-add, drop-cons, drop-drop, drop-nil, take-nil}
 use Rattle.format.specs.Bits.{bits, bitsOf, fill, unle}
-use Rattle.format.proofs.BitsLaws.{
+use Rattle.facts.proofs.BitsLaws.{
   length-bits,
   length-bitsOf,
   bits-cat,

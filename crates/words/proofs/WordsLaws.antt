@@ -12,7 +12,7 @@ use lib.Dec.{leb}
 use lib.ListN.{length, take, drop, length-append}
 use lib.Seq.{take-all, take-at, drop-append-add, length-paste, paste}
 use Rattle.format.specs.Bits.{bits, bitsOf, pack, AllBelow}
-use Rattle.format.proofs.BitsLaws.{length-bits, length-pack, bitsOf-pack, allBelow-bits, allBelow-pack, fill-exact}
+use Rattle.facts.proofs.BitsLaws.{length-bits, length-pack, bitsOf-pack, allBelow-bits, allBelow-pack, fill-exact}
 use Rattle.words.specs.Words.{wordBytes, withWord}
 
 -- ---- the bytes of a word

@@ -18,7 +18,7 @@ use Rattle.format.specs.Ranges.{inside, bitsCopied, bitCopy, rebuildKey}
 use Rattle.format.specs.declared.refusal.Outcome.{Outcome}
 use Rattle.format.specs.declared.refusal.Outcome.the-variants.{Done, Refused}
 use Rattle.format.specs.declared.refusal.Refusal.the-variants.{RangeOutside, Unrepresentable}
-use Rattle.format.proofs.BitsLaws.{length-pack}
+use Rattle.facts.proofs.BitsLaws.{length-pack}
 use Rattle.bit_ops.specs.Calls.{Copied, Rebuilt}
 use Rattle.bit_ops.proofs.RunLaws.{bitsOf-bitsCopied, end-inside, inside-room, paste-fill, paste-zeros}
 

@@ -20,8 +20,8 @@ use Rattle.format.specs.Answer.{refusalOf, afterwards, first, unless}
 use Rattle.format.specs.Ranges.{bitsCopied, separate}
 use Rattle.format.specs.declared.refusal.Outcome.the-variants.{Done, Refused}
 use Rattle.format.specs.declared.refusal.Refusal.the-variants.{NotBelow}
-use Rattle.format.proofs.BitsLaws.{length-bitsOf}
-use Rattle.format.proofs.KeyLaws.{below-irreflexive, sharedBits-all}
+use Rattle.facts.proofs.BitsLaws.{length-bitsOf}
+use Rattle.facts.proofs.KeyLaws.{below-irreflexive, sharedBits-all}
 use Rattle.bit_ops.specs.Calls.{Separated}
 use Rattle.bit_ops.proofs.RunLaws.{paste-zeros}
 

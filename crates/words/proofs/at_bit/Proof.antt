@@ -8,7 +8,7 @@ use native.Mathlib.Omega.{arith}
 use lib.ListN.{take, drop, getD}
 use lib.Seq.{drop-drop}
 use Rattle.format.specs.Bits.{bits, bitsOf, fill}
-use Rattle.format.proofs.BitsLaws.{fill-add, take-fill}
+use Rattle.facts.proofs.BitsLaws.{fill-add, take-fill}
 use Rattle.words.proofs.WindowLaws.{bits-byte, drop-fill}
 use borrow.Author.Needs.{needs}
 use Rattle.words.proofs.at_bit.Statement.{statement}

@@ -10,7 +10,7 @@ use lib.Pow.{pow-pos, pow-add, shr-lt}
 use lib.ListN.{length, take, drop, length-append}
 use lib.Seq.{take-at, drop-at}
 use Rattle.format.specs.Bits.{bits}
-use Rattle.format.proofs.BitsLaws.{length-bits, bits-cat}
+use Rattle.facts.proofs.BitsLaws.{length-bits, bits-cat}
 use Rattle.words.proofs.NumberLaws.{bits-split, shl-64}
 use borrow.Author.Needs.{needs}
 use Rattle.words.proofs.shifted.Statement.{statement}

@@ -9,7 +9,7 @@ use native.Mathlib.Omega.{arith}
 use lib.ListN.{length, take, drop, set, length-set}
 use lib.Seq.{sets-eq}
 use Rattle.format.specs.Bits.{bits, bitsOf, AllBelow}
-use Rattle.format.proofs.BitsLaws.{bits-mod, packed}
+use Rattle.facts.proofs.BitsLaws.{bits-mod, packed}
 use Rattle.words.specs.Words.{wordBytes, withWord}
 use Rattle.words.proofs.NumberLaws.{bits-split}
 use Rattle.words.proofs.WordsLaws.{withWord-in, withWord-out}

@@ -11,7 +11,7 @@ use native.Mathlib.Omega.{arith}
 use lib.ListN.{length, take, drop, replicate, length-drop}
 use lib.Seq.{drop-append-le, drop-drop, take-append-le}
 use Rattle.format.specs.Bits.{bits, bitsOf, fill}
-use Rattle.format.proofs.BitsLaws.{length-bitsOf}
+use Rattle.facts.proofs.BitsLaws.{length-bitsOf}
 use Rattle.bit_ops.proofs.FieldLaws.{field-get, take-drop-take}
 
 -- a part of what is filled that has no zeros of the filling in it

@@ -12,7 +12,7 @@ use native.Mathlib.Omega.{arith}
 use lib.ListN.{length, getD, take, drop, length-drop, drop-of-length-le}
 use lib.Seq.{drop-cons}
 use Rattle.format.specs.Bits.{bits, bitsOf, fill}
-use Rattle.format.proofs.BitsLaws.{bits-cat, fill-take, length-bitsOf}
+use Rattle.facts.proofs.BitsLaws.{bits-cat, fill-take, length-bitsOf}
 use Rattle.bit_ops.proofs.FieldLaws.{bitsOf-drop, bitsOf-take}
 
 two : (s : List ℕ) (i r : ℕ) → i + 1 < length s → bits 16 r ≡ bitsOf (take 2 (drop i s))

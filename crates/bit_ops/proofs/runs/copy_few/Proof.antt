@@ -10,7 +10,7 @@ use native.Mathlib.Omega.{arith}
 use lib.ListN.{take, drop}
 use lib.Seq.{paste, take-all}
 use Rattle.format.specs.Bits.{bits, bitsOf}
-use Rattle.format.proofs.BitsLaws.{length-bits}
+use Rattle.facts.proofs.BitsLaws.{length-bits}
 use Rattle.bit_ops.specs.Runs.{Moved}
 use Rattle.bit_ops.proofs.RunLaws.{moved-none}
 

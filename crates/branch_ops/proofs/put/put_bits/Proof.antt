@@ -7,7 +7,7 @@ use native.Mathlib.Omega.{arith}
 use lib.ListN.{length, getD, set}
 use lib.Seq.{paste}
 use Rattle.format.specs.Bits.{bits, bitsOf}
-use Rattle.format.proofs.BitsLaws.{at-below}
+use Rattle.facts.proofs.BitsLaws.{at-below}
 use Rattle.branch_ops.proofs.PasteLaws.{field-put, bitsOf-paste}
 use Rattle.branch_ops.proofs.PutLaws.{allBelow-set}
 use borrow.Author.Needs.{needs}

@@ -10,7 +10,7 @@ use borrow.Author.Tests.{lt-ltb, le-ltb, eq-eqb, ne-eqb}
 use lib.Dec.{eqb, ltb}
 use Rattle.format.specs.Answer.{some}
 use Rattle.format.specs.Page.{endOf, startOf, storedLength, entryBits}
-use Rattle.format.proofs.AnswerLaws.{or-false}
+use Rattle.facts.proofs.AnswerLaws.{or-false}
 use Rattle.node.specs.declared.reader.Header.{Header}
 use Rattle.node.specs.Reader.{SizesFit, misfit}
 use Rattle.node.proofs.TestsLaws.{start-next, some-more, some-at, or-true}

@@ -10,7 +10,7 @@ use Rattle.format.specs.Bits.{pack}
 use Rattle.format.specs.Page.{Entry, checkPage, count, entryOf, keyOf, pageRefusal, pointerOf, readEntry}
 use Rattle.format.specs.Refusals.{refusalNumber}
 use Rattle.format.specs.declared.refusal.Refusal.{Refusal}
-use Rattle.format.proofs.AcceptedLaws.{
+use Rattle.facts.proofs.AcceptedLaws.{
   Accepted,
   accepted-pageRefusal,
   readEntry-accepted,

@@ -22,8 +22,8 @@ use Rattle.format.specs.Page.{
   startOf,
   storedLength,
 }
-use Rattle.format.proofs.BitsLaws.{fill-exact, take-fill}
-use Rattle.format.proofs.PageLaws.{length-body}
+use Rattle.facts.proofs.BitsLaws.{fill-exact, take-fill}
+use Rattle.facts.proofs.PageLaws.{length-body}
 use Rattle.words.proofs.WindowLaws.{drop-bitsOf}
 use Rattle.rows.specs.declared.key.Key.{Key}
 use Rattle.rows.specs.Keys.{keyBits}

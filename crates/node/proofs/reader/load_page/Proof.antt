@@ -12,7 +12,7 @@ use Rattle.format.specs.Edit.{noEntry}
 use Rattle.format.specs.Page.{Entry, checkPage, entries, entryOf, keyOf}
 use Rattle.format.specs.Refusals.{refusalNumber}
 use Rattle.format.specs.declared.refusal.Refusal.{Refusal}
-use Rattle.format.proofs.PageLaws.{entries-at, length-entries}
+use Rattle.facts.proofs.PageLaws.{entries-at, length-entries}
 use Rattle.rows.specs.Rows.{rowEntry, rowKey, rows, withRows}
 use Rattle.rows.proofs.RowsLaws.{rows-at, rows-withRows}
 use Rattle.node.specs.declared.reader.Header.{Header}

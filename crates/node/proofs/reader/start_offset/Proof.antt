@@ -5,7 +5,7 @@ use mathlib.Core.Path.{_≡_, sym, ap, _∙_}
 use Prim.Native.Nat.{ℕ, suc, _-_}
 use native.Mathlib.Omega.{arith}
 use Rattle.format.specs.Page.{startOf, endOf}
-use Rattle.format.proofs.PageLaws.{startOf-zero, startOf-suc}
+use Rattle.facts.proofs.PageLaws.{startOf-zero, startOf-suc}
 use borrow.Author.Needs.{needs}
 use Rattle.node.proofs.reader.start_offset.Statement.{statement}
 use Rattle.node.proofs.reader.start_offset.Tie as tie

@@ -8,7 +8,7 @@ use native.Mathlib.Omega.{arith}
 use lib.ListN.{length, take, drop, length-append}
 use lib.Seq.{take-all, take-at}
 use Rattle.format.specs.Bits.{bits, bitsOf, fill}
-use Rattle.format.proofs.BitsLaws.{length-bits, fill-take}
+use Rattle.facts.proofs.BitsLaws.{length-bits, fill-take}
 use Rattle.words.proofs.WindowLaws.{fill-take-fill, take-fill-append}
 use borrow.Author.Needs.{needs}
 use Rattle.rows.proofs.key.word_of.Statement.{statement}

@@ -6,7 +6,7 @@ use Prim.Native.Nat.{ℕ}
 use native.Mathlib.Omega.{arith}
 use lib.ListN.{length, drop}
 use Rattle.format.specs.Bits.{bits, bitsOf, fill}
-use Rattle.format.proofs.BitsLaws.{length-bitsOf, fill-add, fill-exact}
+use Rattle.facts.proofs.BitsLaws.{length-bitsOf, fill-add, fill-exact}
 use Rattle.rows.specs.declared.key.Key.{Key}
 use Rattle.rows.specs.Keys.{keyBits}
 use borrow.Author.Needs.{needs}

@@ -10,7 +10,7 @@ use borrow.Author.Tests.{le-ltb}
 use lib.Dec.{ltb}
 use Rattle.format.specs.Bits.{bits}
 use Rattle.format.specs.Key.{below}
-use Rattle.format.proofs.KeyLaws.{below-irreflexive}
+use Rattle.facts.proofs.KeyLaws.{below-irreflexive}
 use Rattle.rows.specs.declared.key.Key.{Key}
 use Rattle.rows.specs.Keys.{keyBits}
 use Rattle.rows.proofs.CompareLaws.{below-differ, below-equal}

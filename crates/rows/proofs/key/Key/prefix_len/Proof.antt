@@ -12,8 +12,8 @@ use lib.Count.{leadingZeros, leading-le}
 use lib.ListN.{length}
 use Rattle.format.specs.Bits.{bits}
 use Rattle.format.specs.Key.{sharedBits}
-use Rattle.format.proofs.BitsLaws.{length-bits}
-use Rattle.format.proofs.KeyLaws.{sharedBits-same}
+use Rattle.facts.proofs.BitsLaws.{length-bits}
+use Rattle.facts.proofs.KeyLaws.{sharedBits-same}
 use Rattle.rows.specs.declared.key.Key.{Key}
 use Rattle.rows.specs.Keys.{keyBits}
 use Rattle.rows.proofs.CompareLaws.{sharedBits-differ, sharedBits-equal}

@@ -10,7 +10,7 @@ use lib.Count.{trailingZeros, trailing-le}
 use lib.ListN.{length, length-append}
 use Rattle.format.specs.Bits.{bits}
 use Rattle.format.specs.Key.{lastSet, separatorLength}
-use Rattle.format.proofs.BitsLaws.{length-bits}
+use Rattle.facts.proofs.BitsLaws.{length-bits}
 use Rattle.rows.specs.declared.key.Key.{Key}
 use Rattle.rows.specs.Keys.{keyBits}
 use Rattle.rows.proofs.CompareLaws.{lastSet-bits, lastSet-in, lastSet-before}

@@ -7,7 +7,7 @@ use Prim.Native.Nat.{ℕ, _≤_}
 use native.Mathlib.Omega.{arith}
 use lib.ListN.{length, drop, replicate, length-append, length-drop, drop-of-length-le}
 use Rattle.format.specs.Bits.{bits, bitsOf, pack, AllBelow}
-use Rattle.format.proofs.BitsLaws.{packed, bitsOf-append, allBelow-append}
+use Rattle.facts.proofs.BitsLaws.{packed, bitsOf-append, allBelow-append}
 use Rattle.rows.specs.declared.key.Key.{Key}
 use Rattle.rows.specs.Keys.{keyBits}
 use Rattle.words.specs.Words.{wordBytes, withWord}

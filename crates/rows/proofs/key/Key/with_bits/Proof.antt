@@ -9,7 +9,7 @@ use native.Mathlib.Omega.{arith}
 use lib.ListN.{length, take, drop, length-append, drop-of-length-le}
 use lib.Seq.{take-all, take-at, drop-at, take-append-le, drop-drop, length-take-le}
 use Rattle.format.specs.Bits.{bits, bitsOf, fill}
-use Rattle.format.proofs.BitsLaws.{length-bits, fill-add, fill-nil, fill-take}
+use Rattle.facts.proofs.BitsLaws.{length-bits, fill-add, fill-nil, fill-take}
 use Rattle.rows.specs.declared.key.Key.{Key}
 use Rattle.rows.specs.Keys.{keyBits}
 use Rattle.words.proofs.NumberLaws.{bits-zero}

@@ -1,4 +1,4 @@
--- Laws of any page, accepted or not (`specs/Page.antt`).
+-- Laws of any page, accepted or not (format's `specs/Page.antt`).
 -- In order: entries by position; the keys that a page holds, and how long they are; pointers and the page number, of
 -- a page of bytes; sound entries.
 -- Not here: a page that none of 1 to 8 refuses (`AcceptedLaws`); a page that was laid out (`NormalLaws`).
@@ -13,13 +13,13 @@ use native.Mathlib.Decide.{decLt}
 use borrow.Author.Tests.{le-ltb, lt-ltb}
 use lib.Dec.{ltb}
 use lib.ListN.{List·getD-eq-default, drop, getD, length, length-append, length-drop, length-take, take}
 use Rattle.format.specs.Bits.{AllBelow, fill}
 use Rattle.format.specs.Key.{IsKey, separatorLength}
 use Rattle.format.specs.Page.{Entry, Sound, body, compressed, count, each, endOf, entries, entryBits, entryOf, keyOf, pageNumber, pointerOf, pointersStart, prefixLength, prefixOf, separatorOf, startOf, storedLength}
 use Rattle.format.specs.Normal.{keys}
-use Rattle.format.proofs.BitsLaws.{allBelow-append, allBelow-bitsOf, allBelow-drop, allBelow-fill, allBelow-take, getD-fill, length-bitsOf, length-fill, unle-lt}
-use Rattle.format.proofs.KeyLaws.{separatorLength-least}
-use Rattle.format.proofs.EntryLaws.{getD-each, keys-each, length-each, length-keys, sound-each}
+use Rattle.facts.proofs.BitsLaws.{allBelow-append, allBelow-bitsOf, allBelow-drop, allBelow-fill, allBelow-take, getD-fill, length-bitsOf, length-fill, unle-lt}
+use Rattle.facts.proofs.KeyLaws.{separatorLength-least}
+use Rattle.facts.proofs.EntryLaws.{getD-each, keys-each, length-each, length-keys, sound-each}
 
 -- ---- entries by position
 

@@ -1,4 +1,4 @@
--- Laws of keys (`specs/Key.antt`).
+-- Laws of keys (format's `specs/Key.antt`).
 -- In order: keys; their order (`below`); the bits that two keys share (`sharedBits`), and those of keys in ascending
 -- order; the last set bit (`lastSet`); the separator length, and a key out of its first bits.
 -- Not here: the bits of numbers and bytes (`BitsLaws`); lists of keys (`EntryLaws`, `StoredLaws`).
@@ -16,9 +16,9 @@ use lib.Arith.{digits-lt}
 use lib.Dec.{eqb, ltb}
 use lib.ListN.{List·getD-eq-default, drop, getD, length, length-take, take}
 use lib.Seq.{getD-take, take-add, take-all, take-take}
 use Rattle.format.specs.Bits.{AllBelow, bitsOf, fill, value}
 use Rattle.format.specs.Key.{IsKey, below, lastSet, separatorLength, sharedBits, reach}
-use Rattle.format.proofs.BitsLaws.{allBelow-bitsOf, fill-unique, length-bitsOf, value-inj, value-lt}
+use Rattle.facts.proofs.BitsLaws.{allBelow-bitsOf, fill-unique, length-bitsOf, value-inj, value-lt}
 
 -- ---- keys
 

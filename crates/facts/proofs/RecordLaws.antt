@@ -1,4 +1,4 @@
--- Laws of the edit record: what is written is read back, and what is read is what was written (`specs/Edit.antt`).
+-- Laws of the edit record: what is written is read back, and what is read is what was written (format's `specs/Edit.antt`).
 -- In order: the record's length; its bits; an edit as its kind and its fields; reading what was written; writing what
 -- was read.
 -- Not here: the entries that edits make (`EditLaws`).
@@ -13,11 +13,11 @@ use borrow.Author.Tests.{eqb-false, eqb-true, le-ltb, lt-ltb, ltb-false, ltb-tru
 use lib.Dec.{eqb, ltb}
 use lib.ListN.{drop, length, length-append, length-drop, length-replicate, replicate, take, take-append-drop}
 use lib.Seq.{drop-at, length-take-le, take-at}
 use Rattle.format.specs.Bits.{AllBelow, bits, bitsOf, bytesFor, pack, value}
 use Rattle.format.specs.Edit.{AllWellFormed, Edit, WellFormed, andThen, editBits, editOf, editsBits, fieldBits, padding, readEdits, readRecord, recordOf}
 use Rattle.format.specs.Edit.Edit.{Insert, Keep, Update}
-use Rattle.format.proofs.AnswerLaws.{and-left, and-right, or-left, or-right}
-use Rattle.format.proofs.BitsLaws.{allBelow-append, allBelow-bits, allBelow-bitsOf, allBelow-drop, allBelow-pack, allBelow-take, bits-value, bitsOf-pack, bytesFor-exact, bytesFor-holds, bytesFor-slack, fill-short, length-bits, length-bitsOf, length-pack, pack-bitsOf, pack-zeros, value-lt, value-of-bits, value-zero, value-zeros}
+use Rattle.facts.proofs.AnswerLaws.{and-left, and-right, or-left, or-right}
+use Rattle.facts.proofs.BitsLaws.{allBelow-append, allBelow-bits, allBelow-bitsOf, allBelow-drop, allBelow-pack, allBelow-take, bits-value, bitsOf-pack, bytesFor-exact, bytesFor-holds, bytesFor-slack, fill-short, length-bits, length-bitsOf, length-pack, pack-bitsOf, pack-zeros, value-lt, value-of-bits, value-zero, value-zeros}
 
 -- ---- the record's length
 

@@ -1,4 +1,4 @@
--- Laws of what a page stores of keys (`specs/Normal.antt`).
+-- Laws of what a page stores of keys (format's `specs/Normal.antt`).
 -- In order: `sum` and `running`; `words`; the bits that all keys share (`sharedWith`, `sharedByAll`); stored lengths
 -- and their sum; stored bits, one key at a time (`stored`).
 -- Not here: laws of one or two keys (`KeyLaws`); which choice is best (`ChoiceLaws`); the page (`NormalLaws`).
@@ -11,12 +11,12 @@ use native.Mathlib.Nat.{add-assoc, eq-or-lt-of-le, le-of-suc-le-suc, le-refl, le
 use native.Mathlib.Omega.{arith}
 use lib.ListN.{drop, getD, length, length-append, length-drop, take}
 use lib.Seq.{drop-append-add, getD-take, length-take-le, take-at}
 use Rattle.format.specs.Bits.{AllBelow, le, unle}
 use Rattle.format.specs.Key.{IsKey, separatorLength, sharedBits}
 use Rattle.format.specs.Normal.{running, sharedByAll, sharedWith, storedBits, storedLengths, sum, words}
-use Rattle.format.proofs.BitsLaws.{allBelow-append, allBelow-drop, allBelow-le, allBelow-take, length-le, unle-le}
-use Rattle.format.proofs.KeyLaws.{separatorLength-bound, sharedBits-ascending, sharedBits-bound, sharedBits-same, sharedBits-take-le}
-use Rattle.format.proofs.EntryLaws.{AreKeys, Ascending, ascending-below, ascending-size}
+use Rattle.facts.proofs.BitsLaws.{allBelow-append, allBelow-drop, allBelow-le, allBelow-take, length-le, unle-le}
+use Rattle.facts.proofs.KeyLaws.{separatorLength-bound, sharedBits-ascending, sharedBits-bound, sharedBits-same, sharedBits-take-le}
+use Rattle.facts.proofs.EntryLaws.{AreKeys, Ascending, ascending-below, ascending-size}
 
 -- ---- sum and running
 

@@ -1,4 +1,4 @@
--- Laws of bits, bytes and little-endian numbers (`specs/Bits.antt`).
+-- Laws of bits, bytes and little-endian numbers (format's `specs/Bits.antt`).
 -- In order: `AllBelow`; the bits of one number (`bits`, `value`); the bits of bytes (`bitsOf`); `fill`; `pack`, and
 -- `bitsOf` and `pack` as each other's inverse; little-endian numbers (`le`, `unle`); `bytesFor`.
 -- Not here: a run of bits copied (`RangesLaws`); the order of bits, what they share and where they end (`KeyLaws`).

@@ -1,5 +1,5 @@
--- Laws of lists of entries and of their keys: `each`, `Sound` (`specs/Page.antt`), `keys`, `pointers`
--- (`specs/Normal.antt`), `ascending` (`specs/Edit.antt`).
+-- Laws of lists of entries and of their keys: `each`, `Sound` (format's `specs/Page.antt`), `keys`, `pointers`
+-- (format's `specs/Normal.antt`), `ascending` (`specs/Edit.antt`).
 -- In order: `each`; sound entries; keys and pointers by position; keys in ascending order (`Ascending`), and what the
 -- test of entries tells of them.
 -- Not here: the entries of a page (`PageLaws`); what keys share (`StoredLaws`).
@@ -12,13 +12,13 @@ use Prim.Native.Nat.{_<_, _^_, suc, suc-le-suc, zero, ℕ}
 use native.Mathlib.Nat.{eq-or-lt-of-le, le-of-suc-le-suc, not-suc-le-zero, zero-lt-suc}
 use native.Mathlib.Omega.{arith}
 use lib.ListN.{drop, getD, length, take}
 use Rattle.format.specs.Bits.{AllBelow}
 use Rattle.format.specs.Key.{IsKey, below}
 use Rattle.format.specs.Page.{Entry, Sound, each}
 use Rattle.format.specs.Normal.{firstKey, keys, pointers}
 use Rattle.format.specs.Edit.{ascending, ascendingFrom, noEntry}
-use Rattle.format.proofs.AnswerLaws.{and-left, and-right}
-use Rattle.format.proofs.KeyLaws.{below-transitive}
+use Rattle.facts.proofs.AnswerLaws.{and-left, and-right}
+use Rattle.facts.proofs.KeyLaws.{below-transitive}
 
 -- ---- each
 

@@ -1,5 +1,5 @@
 -- Laws of the page that lays entries out under a permitted choice: it has those entries, and is accepted
--- (`specs/Normal.antt`).
+-- (format's `specs/Normal.antt`).
 -- In order: what is read from a page whose parts are known; `Laid`, what is asked of entries and a choice; the parts
 -- of the page; its length and header; ends, starts and stored lengths; the body; prefix, separator and key; pointers
 -- and entries; that it is accepted, and what a check and a reading answer; the same for the normal page, of entries
@@ -15,19 +15,19 @@ use native.Mathlib.Omega.{arith}
 use native.Mathlib.Decide.{decLt}
 use lib.ListN.{drop, getD, length, length-append, replicate, take}
 use lib.Seq.{drop-append-add, drop-at, drop-drop, length-take-le, take-all, take-at}
 use Rattle.format.specs.Bits.{AllBelow, bitsOf, fill, le, pack, unle}
 use Rattle.format.specs.Key.{IsKey, below, separatorLength}
 use Rattle.format.specs.Answer.{Answer}
 use Rattle.format.specs.Page.{Entry, Sound, body, bodyBytes, checkPage, compressed, count, endOf, entries, entryBits, entryOf, headerOf, keyOf, pageNumber, pageRefusal, pointerOf, pointersStart, prefixLength, prefixOf, readEntry, separatorOf, startOf, storedLength}
 use Rattle.format.specs.Normal.{Permitted, bitsUnder, choice, firstKey, fits, keys, normalPage, pageUnder, pointers, running, storedBits, storedLengths, sum, words}
 use Rattle.format.specs.Edit.{ascending, noEntry}
-use Rattle.format.proofs.BitsLaws.{allBelow-append, allBelow-at, allBelow-le, allBelow-pack, allBelow-take, bitsOf-append, bitsOf-pack, bytesFor-holds, fill-short, length-pack, unle-le}
-use Rattle.format.proofs.KeyLaws.{separatorLength-bound, fill-take-key, fill-prefix-key, separatorLength-positive}
-use Rattle.format.proofs.EntryLaws.{AreKeys, areKeys-at, ascending-next, each-at, firstKey-at, keys-at, length-keys, length-pointers, pointers-at, sound-keys, sound-pointers}
-use Rattle.format.proofs.StoredLaws.{allBelow-storedBits, allBelow-words, length-running, length-storedBits, length-storedLengths, length-words, running-at, sharedByAll-bound, sharedByAll-take, stored, stored-compressed, stored-plain, storedBits-at, storedLengths-compressed, storedLengths-plain, sum-take-le, sum-take-suc, unle-words}
-use Rattle.format.proofs.ChoiceLaws.{choice-bits, choice-permitted, fits-true}
-use Rattle.format.proofs.PageLaws.{entryBits-compressed, entryBits-plain, prefixOf-compressed, prefixOf-plain}
-use Rattle.format.proofs.AcceptedLaws.{Accepted, checkPage-accepted, pageRefusal-accepted, readEntry-accepted}
+use Rattle.facts.proofs.BitsLaws.{allBelow-append, allBelow-at, allBelow-le, allBelow-pack, allBelow-take, bitsOf-append, bitsOf-pack, bytesFor-holds, fill-short, length-pack, unle-le}
+use Rattle.facts.proofs.KeyLaws.{separatorLength-bound, fill-take-key, fill-prefix-key, separatorLength-positive}
+use Rattle.facts.proofs.EntryLaws.{AreKeys, areKeys-at, ascending-next, each-at, firstKey-at, keys-at, length-keys, length-pointers, pointers-at, sound-keys, sound-pointers}
+use Rattle.facts.proofs.StoredLaws.{allBelow-storedBits, allBelow-words, length-running, length-storedBits, length-storedLengths, length-words, running-at, sharedByAll-bound, sharedByAll-take, stored, stored-compressed, stored-plain, storedBits-at, storedLengths-compressed, storedLengths-plain, sum-take-le, sum-take-suc, unle-words}
+use Rattle.facts.proofs.ChoiceLaws.{choice-bits, choice-permitted, fits-true}
+use Rattle.facts.proofs.PageLaws.{entryBits-compressed, entryBits-plain, prefixOf-compressed, prefixOf-plain}
+use Rattle.facts.proofs.AcceptedLaws.{Accepted, checkPage-accepted, pageRefusal-accepted, readEntry-accepted}
 
 -- ---- a page whose parts are known
 

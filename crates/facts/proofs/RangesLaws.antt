@@ -1,4 +1,4 @@
--- Laws of what is done with keys and ranges of bits (`specs/Ranges.antt`).
+-- Laws of what is done with keys and ranges of bits (format's `specs/Ranges.antt`).
 -- In order: `separate`; ranges inside a slice; a part of a list replaced, by index; `bitCopy`, and the bits that it
 -- leaves.
 -- Not here: shared bits and the order of keys (`KeyLaws`).
@@ -14,13 +14,13 @@ use borrow.Author.Tests.{eqb-true, leb-true}
 use lib.Dec.{eqb, leb}
 use lib.ListN.{drop, getD, length, length-drop, replicate, take}
 use lib.Seq.{drop-at, drop-paste, getD-drop, getD-take, length-paste, length-take-le, paste, paste-zero, take-at, take-paste}
 use Rattle.format.specs.Bits.{AllBelow, bitsOf, fill, pack}
 use Rattle.format.specs.Key.{IsKey, below, separator, sharedBits}
 use Rattle.format.specs.Answer.{Answer, first, unless}
 use Rattle.format.specs.Ranges.{bitCopy, bitsCopied, inside, separate}
-use Rattle.format.proofs.AnswerLaws.{and-left, and-right}
-use Rattle.format.proofs.BitsLaws.{allBelow-append, allBelow-bitsOf, allBelow-drop, allBelow-fill, allBelow-pack, allBelow-take, bitsOf-pack, fill-cons, fill-exact, fill-nil, length-bitsOf, length-fill, length-pack}
-use Rattle.format.proofs.KeyLaws.{below-cases, below-less, below-more, below-nil, below-same, sharedBits-more, sharedBits-stop}
+use Rattle.facts.proofs.AnswerLaws.{and-left, and-right}
+use Rattle.facts.proofs.BitsLaws.{allBelow-append, allBelow-bitsOf, allBelow-drop, allBelow-fill, allBelow-pack, allBelow-take, bitsOf-pack, fill-cons, fill-exact, fill-nil, length-bitsOf, length-fill, length-pack}
+use Rattle.facts.proofs.KeyLaws.{below-cases, below-less, below-more, below-nil, below-same, sharedBits-more, sharedBits-stop}
 
 -- ---- separate
 
