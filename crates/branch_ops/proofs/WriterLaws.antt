@@ -479,18 +479,31 @@ holds-all (e ∷ fs) es s h f u v =
     (subst (λ (l : List Edit). bytesFor (10 + length (editsBits l)) ≤ length d) one v)))
 
 -- edits that are written into a buffer with room for their record leave it there
+holds-recordOf : (d : List ℕ) (es : List Edit) → AllWellFormed es → length es ≤ 1023
+    → length (recordOf es) ≤ length d
+    → let s : Writing = pushedAll (record { writer = startingWriter; buffer = d }) es in Holds (s .buffer) (s .writer) es
+holds-recordOf d es f u v =
+    let z : bytesFor (10 + length (editsBits es)) ≡ length (recordOf es) =
+    sym (ap length (recordOf-pack es) ∙ length-pack (bytesFor (length (headed es))) (headed es)
+    ∙ ap bytesFor (length-append (bits 10 (length es)) (editsBits es)
+    ∙ ap (λ (k : ℕ). k + length (editsBits es)) (length-bits 10 (length es)))) in
+    holds-all es [] (record { writer = startingWriter; buffer = d }) (holds-none d) f u (omega (arith, z))
+
 pub recordIn-recordOf : (d : List ℕ) (es : List Edit) → AllWellFormed es → length es ≤ 1023
     → length (recordOf es) ≤ length d
     → take (length (recordOf es)) (recordIn d es) ≡ recordOf es
 unfolding recordIn
 recordIn-recordOf d es f u v =
     let s : Writing = pushedAll (record { writer = startingWriter; buffer = d }) es in
-    let z : bytesFor (10 + length (editsBits es)) ≡ length (recordOf es) =
-    sym (ap length (recordOf-pack es) ∙ length-pack (bytesFor (length (headed es))) (headed es)
-    ∙ ap bytesFor (length-append (bits 10 (length es)) (editsBits es)
-    ∙ ap (λ (k : ℕ). k + length (editsBits es)) (length-bits 10 (length es)))) in
-    let h : Holds (s .buffer) (s .writer) es =
-    holds-all es [] (record { writer = startingWriter; buffer = d }) (holds-none d) f u (omega (arith, z)) in
+    let h : Holds (s .buffer) (s .writer) es = holds-recordOf d es f u v in
     let l : length (s .buffer) ≡ length d = length-pushedAll es (record { writer = startingWriter; buffer = d }) in
     ap (λ (k : ℕ). take k (finishedBytes (s .writer) (s .buffer))) (sym (holds-length (s .buffer) (s .writer) es h f))
     ∙ holds-finish (s .buffer) (s .writer) es h f u (omega (arith, holds-length (s .buffer) (s .writer) es h f, l))
+
+-- the writer ends where that record does
+pub size-recordOf : (d : List ℕ) (es : List Edit) → AllWellFormed es → length es ≤ 1023
+    → length (recordOf es) ≤ length d
+    → bytesFor (pushedAll (record { writer = startingWriter; buffer = d }) es .writer .bit) ≡ length (recordOf es)
+size-recordOf d es f u v =
+    let s : Writing = pushedAll (record { writer = startingWriter; buffer = d }) es in
+    holds-length (s .buffer) (s .writer) es (holds-recordOf d es f u v) f

@@ -1,0 +1,2 @@
+-- What the contract of `build` cites, as definitions.
+pub mod Built
