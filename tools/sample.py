@@ -22,6 +22,9 @@ refusal's number, 0 for none, and lent memory afterwards:
     7  whole     q  sum  n  first  refusal  size
     8  stored    first  m  others  q  refusal  size
     9  page      page  refusal  number  n  m  q  bits  index  out  refusal  pointer  out
+   10  build     base  record  number  page_length  page_byte  undo  refusal  n  m  q  bits  undo_length  page  undo
+
+The page that is lent to a build holds one byte all over; afterwards it stands here where the build was accepted.
 """
 import os
 import sys
@@ -29,7 +32,8 @@ import sys
 MOST = 150
 PAGES = 6
 OUT = bytes(range(1, 33))
-OPERATIONS = {"sep_len": 1, "shared": 2, "separate": 3, "copy": 4, "rebuild": 5, "body": 6, "whole": 7, "stored": 8, "page": 9}
+OPERATIONS = {"sep_len": 1, "shared": 2, "separate": 3, "copy": 4, "rebuild": 5, "body": 6, "whole": 7, "stored": 8, "page": 9,
+              "build": 10}
 SAMPLE = os.path.join(os.path.dirname(os.path.abspath(__file__)), "..", "crates", "replayed", "data", "cases")
 
 
@@ -59,7 +63,19 @@ def fields(op, args, answer):
     if op == "rebuild":
         return [raw(args[0]), number(args[1]), raw(args[2]), number(args[3]), number(args[4]), OUT, number(refusal),
                 OUT if refusal else raw(answer[1])]
+    if op == "build":
+        return build_fields([raw(args[0]), raw(args[1]), number(args[2])], raw(args[3]), raw(args[4]), refusal, answer)
     return [number(x) for x in args] + [number(refusal), number(0 if refusal else answer[1])]
+
+
+def build_fields(given, page, undo, refusal, answer):
+    """The fields of a build."""
+    numbers = [0] * 5 if refusal else answer[1:6]
+    page_after, undo_after = raw(answer[-2]), raw(answer[-1])
+    if len(set(page)) > 1 or refusal and page_after != page:
+        sys.exit("a lent page is not of one byte, or a refused build changes it: the sample has no place for that")
+    return (given + [number(len(page)), number(page[0] if page else 0), undo, number(refusal)] + [number(x) for x in numbers]
+            + [b"" if refusal else page_after, undo_after])
 
 
 def page_fields(checked, read):

@@ -2,6 +2,7 @@
 // tools/sample.py writes, and prints a line for each operation: its name, how many cases ran, and
 // how many of them came out otherwise than they should.
 mod bits;
+mod builds;
 mod cases;
 mod pages;
 
@@ -20,13 +21,14 @@ fn run(op: usize, s: &[u8]) -> bool {
         7 => pages::whole(s),
         8 => pages::stored(s),
         9 => pages::page(s),
+        10 => builds::build(s),
         _ => false,
     }
 }
 
 // One more at place i of a tally; at place 0 where it has no such place.
-fn count(tally: &mut [u64; 10], i: usize) {
-    if 10 <= i {
+fn count(tally: &mut [u64; 11], i: usize) {
+    if 11 <= i {
         tally[0] = std::num::wrapping_add_u64(tally[0], 1);
         return;
     }
@@ -34,7 +36,7 @@ fn count(tally: &mut [u64; 10], i: usize) {
 }
 
 // Reads the next case and runs it. One that cannot be read counts at place 0.
-fn step(fd: i32, buf: &mut [u8], ran: &mut [u64; 10], differed: &mut [u64; 10]) {
+fn step(fd: i32, buf: &mut [u8], ran: &mut [u64; 11], differed: &mut [u64; 11]) {
     let c = cases::read(fd, buf);
     let size = c.size;
     count(ran, c.op);
@@ -43,15 +45,15 @@ fn step(fd: i32, buf: &mut [u8], ran: &mut [u64; 10], differed: &mut [u64; 10]) 
     }
 }
 
-fn steps(fd: i32, buf: &mut [u8], ran: &mut [u64; 10], differed: &mut [u64; 10]) {
+fn steps(fd: i32, buf: &mut [u8], ran: &mut [u64; 11], differed: &mut [u64; 11]) {
     for _ in 0..cases::how_many(fd) {
         step(fd, buf, ran, differed);
     }
 }
 
 // Prints an operation's name and place i of both tallies.
-fn line(name: &[u8], ran: &[u64; 10], differed: &[u64; 10], i: usize)
-    requires { ⌜ i < 10 ⌝ }
+fn line(name: &[u8], ran: &[u64; 11], differed: &[u64; 11], i: usize)
+    requires { ⌜ i < 11 ⌝ }
 {
     io::write_all(STDOUT_FILENO, name);
     io::write_all(STDOUT_FILENO, b" ");
@@ -61,7 +63,7 @@ fn line(name: &[u8], ran: &[u64; 10], differed: &[u64; 10], i: usize)
     io::write_all(STDOUT_FILENO, b"\n");
 }
 
-fn report(ran: &[u64; 10], differed: &[u64; 10]) {
+fn report(ran: &[u64; 11], differed: &[u64; 11]) {
     line(b"sep_len", ran, differed, 1);
     line(b"shared", ran, differed, 2);
     line(b"separate", ran, differed, 3);
@@ -71,14 +73,15 @@ fn report(ran: &[u64; 10], differed: &[u64; 10]) {
     line(b"whole", ran, differed, 7);
     line(b"stored", ran, differed, 8);
     line(b"check and entry", ran, differed, 9);
+    line(b"build", ran, differed, 10);
     if ran[0] != 0 {
         line(b"not a case", ran, differed, 0);
     }
 }
 
 fn replay(fd: i32) {
-    let mut ran = [0u64; 10];
-    let mut differed = [0u64; 10];
+    let mut ran = [0u64; 11];
+    let mut differed = [0u64; 11];
     let mut buf = io::large_buffer();
     steps(fd, &mut buf, &mut ran, &mut differed);
     report(&ran, &differed);
