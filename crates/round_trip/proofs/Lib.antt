@@ -1,0 +1,2 @@
+-- Laws of the round trip.
+mod TripLaws
