@@ -16,7 +16,7 @@ use Rattle.format.specs.Normal.{storedLengths, sum, words}
 use Rattle.facts.proofs.ChoiceLaws.{choice-permitted, fits-true, permitted-shared}
 use Rattle.facts.proofs.EntryLaws.{length-keys}
 use Rattle.facts.proofs.StoredLaws.{sharedByAll-bound}
-use Rattle.rows.specs.Rows.{rows, rowKey}
+use Rattle.rows.specs.Rows.{rows}
 use Rattle.rows.proofs.RowsLaws.{length-rows}
 use Rattle.parts.proofs.PartLaws.{storedSum-in}
 use Rattle.parts.specs.Parts.{storedSum, rowKeys, rowLengths, headerBytes}
@@ -92,10 +92,7 @@ writable-row out t n m q e =
 pub laidOut-same : (number : ℕ) (t : List ℕ) (n m q : ℕ) (f g : ℕ → List ℕ) → ((i : ℕ) → i < n → f i ≡ g i)
     → laidOut number t n m q f ≡ laidOut number t n m q g
 unfolding laidOut rowBits
-laidOut-same number t n m q f g e =
-    ap (λ (b : List ℕ). headerBytes number n m q ++ words 2 (running 0 (rowLengths n t m q))
-    ++ pack (4086 - 6 * n) (take q (rowKey t 0) ++ b) ++ words 4 (pointers (rows n t)))
-    (rowsBits-same f g n 0 n (omega arith) e)
+laidOut-same number t n m q f g e = rw (rowsBits-same f g n 0 n (omega arith) e)
 
 pub laidOut-own : (number : ℕ) (t : List ℕ) (n m q : ℕ) → 1 ≤ n
     → laidOut number t n m q (ownBits t m q) ≡ pageUnder number (rows n t) m q
