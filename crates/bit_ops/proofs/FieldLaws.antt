@@ -5,11 +5,11 @@
 use mathlib.Core.List.{List, [], _∷_, _++_, append-assoc}
 use mathlib.Core.Path.{_≡_, refl, sym, ap, ap₂, subst, _∙_}
 use Prim.Native.Nat.{ℕ, zero, suc, _+_, _-_, _*_, _/_, _%_, _^_, _≤_, _<_}
-use native.Mathlib.Nat.{add-comm, div-one, le-of-suc-le-suc, mod-lt, not-suc-le-zero}
+use native.Mathlib.Nat.{add-comm, le-of-suc-le-suc, mod-lt, not-suc-le-zero}
 use native.Mathlib.Omega.{arith}
 use lib.Arith.{digits-lt}
 use lib.ListN.{length, getD, take, drop, set, length-append, take-append-drop, List·getD-append}
-use lib.Pow.{pow-pos, pow-add, split, shr-shr, mod-pow-add}
+use lib.Pow.{pow-pos, pow-add, split, mod-pow-add}
 use lib.Seq.{drop-append-add, drop-append-le, drop-at, drop-cons, drop-drop, getD-append-add, length-take-le, paste}
 use lib.Seq.{set-split, split-at, take-add, take-all, take-append-add, take-append-le, take-at, take-take}
 use Rattle.format.specs.Bits.{bits, bitsOf}

@@ -2,12 +2,12 @@
 -- In order: one bit more, or none; how far two keys have been gone through (`SharedTo`).
 -- Assumes nothing.
 use mathlib.Core.List.{List}
-use mathlib.Core.Path.{_≡_, ap, ap₂, _∙_}
+use mathlib.Core.Path.{_≡_, ap₂, _∙_}
 use Prim.Native.Nat.{ℕ, suc, _+_, _-_, _*_, _≤_, _<_}
 use native.Mathlib.Omega.{arith}
 use lib.ListN.{length, getD, drop, drop-of-length-le}
 use lib.Seq.{drop-cons}
-use Rattle.format.specs.Bits.{bits, bitsOf}
+use Rattle.format.specs.Bits.{bitsOf}
 use Rattle.format.specs.Key.{sharedBits}
 use Rattle.facts.proofs.BitsLaws.{length-bitsOf}
 use Rattle.facts.proofs.KeyLaws.{sharedBits-more, sharedBits-stop}

@@ -1,180 +1,170 @@
--- Laws of numbers, keys and edits written as bits, as the code writes them.
--- In order: bytes that are known to be bytes; a number part by part (`Putting`); bits behind bits; an edit.
--- Not here: the pastes themselves (`PasteLaws`).
+-- Laws of bits that are written into bytes (`withBits`), as the code writes them.
+-- In order: the bits afterwards; bits behind bits; a number and a key; the numbers of an Update and a KeepChunk; an edit.
 -- Assumes nothing.
-use mathlib.Core.List.{List, _∷_, _++_}
-use mathlib.Core.Path.{_≡_, refl, sym, ap, ap₂, subst, _∙_}
-use Prim.Native.Nat.{ℕ, suc, _+_, _-_, _*_, _/_, _%_, _^_, _≤_, _<_, min}
+use mathlib.Core.List.{List, _++_, append-assoc}
+use mathlib.Core.Path.{_≡_, refl, sym, ap, ap₂, _∙_}
+use Prim.Native.Nat.{ℕ, _+_, _*_, _%_, _^_, _≤_}
+use native.Mathlib.Nat.{mod-lt}
 use native.Mathlib.Omega.{arith}
-use lib.ListN.{length, take, drop, set, length-append}
-use lib.Seq.{paste, paste-zero, length-paste, set-split}
-use Rattle.format.specs.Bits.{bits, bitsOf, AllBelow}
+use lib.Pow.{pow-pos}
+use lib.ListN.{length, take, drop, length-append}
+use lib.Seq.{drop-drop, drop-paste, length-paste, paste, take-all, take-paste}
+use Rattle.format.specs.Bits.{bits, bitsOf, pack, AllBelow}
 use Rattle.format.specs.Edit.{editBits}
-use Rattle.facts.proofs.BitsLaws.{length-bits, length-bitsOf, bits-mod, allBelow-append, allBelow-take, allBelow-drop}
-use Rattle.words.proofs.NumberLaws.{take-bits}
+use Rattle.format.specs.Key.{IsKey}
+use Rattle.facts.proofs.BitsLaws.{
+  allBelow-append,
+  allBelow-bits,
+  allBelow-bitsOf,
+  allBelow-drop,
+  allBelow-take,
+  bits-cat,
+  bits-mod,
+  bitsOf-pack,
+  fill-exact,
+  length-bits,
+  length-bitsOf,
+  length-pack,
+}
 use Rattle.rows.specs.declared.key.Key.{Key}
 use Rattle.rows.specs.Keys.{keyBits}
-use Rattle.rows.proofs.KeysLaws.{length-keyBits}
+use Rattle.rows.proofs.KeysLaws.{isKey-keyBits, length-keyBits}
+use Rattle.parts.specs.Parts.{withKey, withNumber}
+use Rattle.parts.proofs.BitLaws.{withKey-inside, withNumber-inside}
 use Rattle.edits.specs.declared.edit.Edit.{Edit}
 use Rattle.edits.specs.declared.edit.Edit.the-variants.{Insert, Update, KeepChunk}
 use Rattle.edits.specs.Record.{editMeant}
-use Rattle.edits.proofs.ReadingLaws.{drop-bits, size-insert, size-update, size-keep}
-use Rattle.branch_ops.specs.Writer.{Bytes}
-use Rattle.branch_ops.proofs.PasteLaws.{paste-more, paste-append}
+use Rattle.edits.proofs.ReadingLaws.{size-insert, size-update, size-keep}
+use Rattle.branch_ops.specs.Writer.{withBits}
 
--- ---- bytes
+-- ---- the bits afterwards
 
--- a byte stored among bytes
-pub allBelow-set : (l : List ℕ) (i y : ℕ) → i < length l → AllBelow 256 l → y < 256 → AllBelow 256 (set l i y)
-unfolding AllBelow
-allBelow-set l i y h b k =
-    subst (AllBelow 256) (sym (set-split l i y h))
-    (allBelow-append 256 (take i l) (y ∷ drop (suc i) l) (allBelow-take 256 i l b) (k, allBelow-drop 256 (suc i) l b))
+pub length-withBits : (d : List ℕ) (p : ℕ) (bs : List ℕ) → length (withBits d p bs) ≡ length d
+unfolding withBits
+length-withBits d p bs = length-pack (length d) (paste (bitsOf d) p bs (length bs))
 
-pub bytes-known : (n : ℕ) (d : List ℕ) → Bytes n d → 1 ≤ n → AllBelow 256 d
-bytes-known n d b h = b .known h
+pub allBelow-paste : (x : List ℕ) (p : ℕ) (y : List ℕ) (n : ℕ) → AllBelow 2 x → AllBelow 2 y
+    → AllBelow 2 (paste x p y n)
+allBelow-paste x p y n hx hy =
+    allBelow-append 2 (take p x ++ take n y) (drop (p + n) x)
+    (allBelow-append 2 (take p x) (take n y) (allBelow-take 2 p x hx) (allBelow-take 2 n y hy))
+    (allBelow-drop 2 (p + n) x hx)
 
--- a paste within bytes keeps their number
-paste-size : (d e : List ℕ) (p : ℕ) (s : List ℕ) (n : ℕ) → bitsOf e ≡ paste (bitsOf d) p s n → p + n ≤ 8 * length d
-    → n ≤ length s
-    → length e ≡ length d
-paste-size d e p s n q h k =
-    let l : length (paste (bitsOf d) p s n) ≡ length (bitsOf d) =
-    length-paste (bitsOf d) p s n (omega (arith, length-bitsOf d)) k in
-    omega (arith, ap length q, l, length-bitsOf d, length-bitsOf e)
+pub bitsOf-packed : (d x : List ℕ) → AllBelow 2 x → length x ≡ 8 * length d → bitsOf (pack (length d) x) ≡ x
+bitsOf-packed d x b e = bitsOf-pack (length d) x b ∙ fill-exact x (8 * length d) e
 
--- ---- a number, part by part
-
--- the first i of the n bits of x are put
-pub record Putting (d₀ : List ℕ) (p n x i : ℕ) (d : List ℕ) : Type 0 where
-  pub size : length d ≡ length d₀
-  pub is : bitsOf d ≡ paste (bitsOf d₀) p (bits n x) i
-  pub known : 0 < i → AllBelow 256 d
-
-pub put-start : (d : List ℕ) (p n x : ℕ) → Putting d p n x 0 d
-put-start d p n x = record { size = refl; is = paste-zero (bitsOf d) p (bits n x); known = λ h. absurd (omega arith) }
-
-part-of : (n x i m : ℕ) → i + m ≤ n → bits m (x / 2 ^ ((n - i) - m) % 2 ^ m) ≡ take m (drop i (bits n x))
-part-of n x i m h =
-    let e : i + (n - i) ≡ n = omega arith in
-    let f : m + ((n - i) - m) ≡ n - i = omega arith in
-    bits-mod m m (x / 2 ^ ((n - i) - m)) (omega arith) ∙ sym (take-bits m ((n - i) - m) x)
-    ∙ ap (λ (k : ℕ). take m (bits k x)) f
-    ∙ ap (take m) (sym (drop-bits i (n - i) x)) ∙ ap (λ (k : ℕ). take m (drop i (bits k x))) e
-
-module _ (d₀ : List ℕ) (p n x i : ℕ) (d : List ℕ) (g : Putting d₀ p n x i d) (h : i < n)
-    (r : p + n ≤ 8 * length d₀) where
-  pub put-more : (m v : ℕ) (d′ : List ℕ) → m ≡ min (n - i) (8 - (p + i) % 8) → v ≡ x / 2 ^ ((n - i) - m) % 2 ^ m
-      → bitsOf d′ ≡ paste (bitsOf d) (8 * ((p + i) / 8) + (p + i) % 8) (bits m v) m → AllBelow 256 d′
-      → Putting d₀ p n x (i + m) d′
-  put-more m v d′ hm ev q b =
-      let e : 8 * ((p + i) / 8) + (p + i) % 8 ≡ p + i = omega arith in
-      let w : bits m v ≡ take m (drop i (bits n x)) = ap (bits m) ev ∙ part-of n x i m (omega arith) in
-      let o : (p + i) + m ≤ length (bitsOf d₀) = omega (arith, length-bitsOf d₀) in
-      let l : i + m ≤ length (bits n x) = omega (arith, length-bits n x) in
-      let z : bitsOf d′ ≡ paste (bitsOf d₀) p (bits n x) (i + m) =
-      q ∙ ap (λ (k : ℕ). paste (bitsOf d) k (bits m v) m) e
-      ∙ ap₂ (λ (y w : List ℕ). paste y (p + i) w m) (g .is) w ∙ paste-more (bitsOf d₀) p (bits n x) i m o l in
-      record { size = paste-size d₀ d′ p (bits n x) (i + m) z (omega arith) l; is = z; known = λ k. b }
-
-  pub put-room : (p + i) / 8 < length d
-  put-room = omega (arith, g .size)
-
-module _ (d₀ : List ℕ) (p n x i : ℕ) (d : List ℕ) (g : Putting d₀ p n x i d) (h : i ≤ n) (k : n ≤ i) where
-  pub put-end : bitsOf d ≡ paste (bitsOf d₀) p (bits n x) n
-  put-end =
-      let e : i ≡ n = omega arith in
-      g .is ∙ ap (λ (j : ℕ). paste (bitsOf d₀) p (bits n x) j) e
-
-  pub put-bytes : Bytes n d
-  put-bytes = record { known = λ z. g .known (omega arith) }
+pub bitsOf-withBits : (d : List ℕ) (p : ℕ) (bs : List ℕ) → AllBelow 2 bs → p + length bs ≤ 8 * length d
+    → bitsOf (withBits d p bs) ≡ paste (bitsOf d) p bs (length bs)
+unfolding withBits
+bitsOf-withBits d p bs b h =
+    bitsOf-packed d (paste (bitsOf d) p bs (length bs))
+    (allBelow-paste (bitsOf d) p bs (length bs) (allBelow-bitsOf d) b)
+    (length-paste (bitsOf d) p bs (length bs) (omega (arith, length-bitsOf d)) (omega arith) ∙ length-bitsOf d)
 
 -- ---- bits behind bits
 
-put-two : (d e f : List ℕ) (p a b : ℕ) (x y : List ℕ) → bitsOf e ≡ paste (bitsOf d) p x a
-    → bitsOf f ≡ paste (bitsOf e) (p + a) y b
-    → length x ≡ a → length y ≡ b → (p + a) + b ≤ 8 * length d → bitsOf f ≡ paste (bitsOf d) p (x ++ y) (a + b)
-put-two d e f p a b x y q r ex ey h =
-    r ∙ ap (λ (z : List ℕ). paste z (p + a) y b) q
-    ∙ paste-append (bitsOf d) p x y a b ex ey (omega (arith, length-bitsOf d))
+paste-append : (d : List ℕ) (at : ℕ) (x y : List ℕ) (a b : ℕ) → length x ≡ a → length y ≡ b
+    → (at + a) + b ≤ length d
+    → paste (paste d at x a) (at + a) y b ≡ paste d at (x ++ y) (a + b)
+paste-append d at x y a b ex ey h =
+    let t : take (at + a) (paste d at x a) ≡ take at d ++ x =
+    take-paste d at x a (omega arith) (omega arith)
+    ∙ ap (λ (l : List ℕ). take at d ++ l) (take-all a x (omega arith)) in
+    let r : drop ((at + a) + b) (paste d at x a) ≡ drop ((at + a) + b) d =
+    sym (drop-drop b (at + a) (paste d at x a)) ∙ ap (drop b) (drop-paste d at x a (omega arith) (omega arith))
+    ∙ drop-drop b (at + a) d in
+    let e : (at + a) + b ≡ at + (a + b) = omega arith in
+    let w : take (a + b) (x ++ y) ≡ x ++ y = take-all (a + b) (x ++ y) (omega (arith, length-append x y)) in
+    ap₂ (λ (l m : List ℕ). l ++ take b y ++ m) t r
+    ∙ ap (λ (l : List ℕ). (take at d ++ x) ++ l ++ drop ((at + a) + b) d) (take-all b y (omega arith))
+    ∙ ap₂ _++_ (append-assoc (take at d) x y ∙ ap (λ (l : List ℕ). take at d ++ l) (sym w)) (ap (λ (k : ℕ). drop k d) e)
 
-pub put-words : (d e1 e2 e3 e4 : List ℕ) (p : ℕ) (k : Key) → p + 256 ≤ 8 * length d
-    → bitsOf e1 ≡ paste (bitsOf d) p (bits 64 (k .a)) 64
-    → bitsOf e2 ≡ paste (bitsOf e1) (p + 64) (bits 64 (k .b)) 64
-    → bitsOf e3 ≡ paste (bitsOf e2) (p + 128) (bits 64 (k .c)) 64
-    → bitsOf e4 ≡ paste (bitsOf e3) (p + 192) (bits 64 (k .d)) 64 → bitsOf e4 ≡ paste (bitsOf d) p (keyBits k) 256
-unfolding keyBits
-put-words d e1 e2 e3 e4 p k h q1 q2 q3 q4 =
-    let a : List ℕ = bits 64 (k .a) in
-    let b : List ℕ = bits 64 (k .b) in
-    let c : List ℕ = bits 64 (k .c) in
-    let la : length a ≡ 64 = length-bits 64 (k .a) in
-    let lb : length b ≡ 64 = length-bits 64 (k .b) in
-    let lc : length c ≡ 64 = length-bits 64 (k .c) in
-    let l2 : length (a ++ b) ≡ 128 = omega (arith, length-append a b) in
-    let l3 : length (a ++ b ++ c) ≡ 192 = omega (arith, length-append (a ++ b) c) in
-    let r2 : bitsOf e2 ≡ paste (bitsOf d) p (a ++ b) 128 = put-two d e1 e2 p 64 64 a b q1 q2 la lb (omega arith) in
-    let r3 : bitsOf e3 ≡ paste (bitsOf d) p (a ++ b ++ c) 192 =
-    put-two d e2 e3 p 128 64 (a ++ b) c r2 q3 l2 lc (omega arith) in
-    put-two d e3 e4 p 192 64 (a ++ b ++ c) (bits 64 (k .d)) r3 q4 l3 (length-bits 64 (k .d)) (omega arith)
+pub withBits-append : (d : List ℕ) (p a : ℕ) (x y : List ℕ) → AllBelow 2 x → length x ≡ a
+    → (p + a) + length y ≤ 8 * length d
+    → withBits (withBits d p x) (p + a) y ≡ withBits d p (x ++ y)
+unfolding withBits
+withBits-append d p a x y b ex h =
+    ap₂ (λ (k : ℕ) (z : List ℕ). pack k (paste z (p + a) y (length y))) (length-withBits d p x)
+    (bitsOf-withBits d p x b (omega arith) ∙ ap (paste (bitsOf d) p x) ex)
+    ∙ ap (pack (length d)) (paste-append (bitsOf d) p x y a (length y) ex refl (omega (arith, length-bitsOf d))
+    ∙ ap (paste (bitsOf d) p (x ++ y)) (sym (length-append x y ∙ ap (λ (k : ℕ). k + length y) ex)))
 
-put-three : (d e1 e2 e3 : List ℕ) (p a b c : ℕ) (x y z : List ℕ) → (p + (a + b)) + c ≤ 8 * length d → length x ≡ a
-    → length y ≡ b
-    → length z ≡ c → bitsOf e1 ≡ paste (bitsOf d) p x a → bitsOf e2 ≡ paste (bitsOf e1) (p + a) y b
-    → bitsOf e3 ≡ paste (bitsOf e2) (p + (a + b)) z c → bitsOf e3 ≡ paste (bitsOf d) p (x ++ y ++ z) ((a + b) + c)
-put-three d e1 e2 e3 p a b c x y z h lx ly lz q1 q2 q3 =
-    put-two d e2 e3 p (a + b) c (x ++ y) z (put-two d e1 e2 p a b x y q1 q2 lx ly (omega arith)) q3
-    (length-append x y ∙ ap₂ _+_ lx ly) lz (omega arith)
+-- ---- a number and a key
 
-pub put-insert : (d e1 e2 e3 : List ℕ) (p : ℕ) (k : Key) (x : ℕ) → p + 290 ≤ 8 * length d
-    → bitsOf e1 ≡ paste (bitsOf d) p (bits 2 0) 2
-    → bitsOf e2 ≡ paste (bitsOf e1) (p + 2) (keyBits k) 256 → bitsOf e3 ≡ paste (bitsOf e2) (p + 258) (bits 32 x) 32
-    → bitsOf e3 ≡ paste (bitsOf d) p (bits 2 0 ++ keyBits k ++ bits 32 x) 290
-put-insert d e1 e2 e3 p k x h q1 q2 q3 =
-    put-three d e1 e2 e3 p 2 256 32 (bits 2 0) (keyBits k) (bits 32 x) (omega arith) (length-bits 2 0)
-    (length-keyBits k)
-    (length-bits 32 x) q1 q2 q3
+pub number-is : (d : List ℕ) (p n x : ℕ) → n ≤ 64 → p + n ≤ 8 * length d
+    → withNumber d p n x ≡ withBits d p (bits n x)
+unfolding withBits
+number-is d p n x h q =
+    withNumber-inside d p n x h q
+    ∙ ap (λ (k : ℕ). pack (length d) (paste (bitsOf d) p (bits n x) k)) (sym (length-bits n x))
 
-pub put-fields : (d e1 e2 e3 : List ℕ) (p c i n x : ℕ) → p + (12 + n) ≤ 8 * length d
-    → bitsOf e1 ≡ paste (bitsOf d) p (bits 2 c) 2
-    → bitsOf e2 ≡ paste (bitsOf e1) (p + 2) (bits 10 i) 10 → bitsOf e3 ≡ paste (bitsOf e2) (p + 12) (bits n x) n
-    → bitsOf e3 ≡ paste (bitsOf d) p (bits 2 c ++ bits 10 i ++ bits n x) (12 + n)
-put-fields d e1 e2 e3 p c i n x h q1 q2 q3 =
-    put-three d e1 e2 e3 p 2 10 n (bits 2 c) (bits 10 i) (bits n x) (omega arith) (length-bits 2 c) (length-bits 10 i)
-    (length-bits n x) q1 q2 q3
+key-is : (d : List ℕ) (p : ℕ) (k : Key) → p + 256 ≤ 8 * length d
+    → withKey d p (keyBits k) 0 256 ≡ withBits d p (keyBits k)
+unfolding withBits
+key-is d p k h =
+    withKey-inside d p (keyBits k) 0 256 (isKey-keyBits k) h (omega arith)
+    ∙ ap (λ (n : ℕ). pack (length d) (paste (bitsOf d) p (keyBits k) n)) (sym (length-keyBits k))
+
+pub put-insert : (d d₁ d₂ d₃ : List ℕ) (p : ℕ) (k : Key) (x : ℕ) → p + 290 ≤ 8 * length d → d₁ ≡ withNumber d p 2 0
+    → d₂ ≡ withKey d₁ (p + 2) (keyBits k) 0 256
+    → d₃ ≡ withNumber d₂ (p + 258) 32 x
+    → d₃ ≡ withBits d p (bits 2 0 ++ keyBits k ++ bits 32 x)
+put-insert d d₁ d₂ d₃ p k x h e₁ e₂ e₃ =
+    let b : List ℕ = bits 2 0 in
+    let lb : length b ≡ 2 = length-bits 2 0 in
+    let lk : length (keyBits k) ≡ 256 = length-keyBits k in
+    let y : IsKey (keyBits k) = isKey-keyBits k in
+    let q₁ : d₁ ≡ withBits d p b = e₁ ∙ number-is d p 2 0 (omega arith) (omega arith) in
+    let l₁ : length d₁ ≡ length d = ap length q₁ ∙ length-withBits d p b in
+    let q₂ : d₂ ≡ withBits d p (b ++ keyBits k) =
+    e₂ ∙ key-is d₁ (p + 2) k (omega arith) ∙ ap (λ (z : List ℕ). withBits z (p + 2) (keyBits k)) q₁
+    ∙ withBits-append d p 2 b (keyBits k) (allBelow-bits 2 0) lb (omega arith) in
+    let l₂ : length d₂ ≡ length d = ap length q₂ ∙ length-withBits d p (b ++ keyBits k) in
+    e₃ ∙ number-is d₂ (p + 258) 32 x (omega arith) (omega arith)
+    ∙ ap (λ (z : List ℕ). withBits z (p + 258) (bits 32 x)) q₂
+    ∙ withBits-append d p 258 (b ++ keyBits k) (bits 32 x) (allBelow-append 2 b (keyBits k) (allBelow-bits 2 0) (y .bits))
+    (omega (arith, length-append b (keyBits k))) (omega (arith, length-bits 32 x))
+
+-- ---- the numbers of an Update and a KeepChunk
+
+-- a kind of two bits, ten bits of i, and n bits of x
+fields : (c i n x : ℕ) → bits (12 + n) ((c * 2 ^ 10 + i % 2 ^ 10) * 2 ^ n + x % 2 ^ n) ≡ bits 2 c ++ bits 10 i ++ bits n x
+fields c i n x =
+    bits-cat 12 n (c * 2 ^ 10 + i % 2 ^ 10) (x % 2 ^ n) (mod-lt x (pow-pos n))
+    ∙ ap₂ _++_ (bits-cat 2 10 c (i % 2 ^ 10) (mod-lt i (pow-pos 10)) ∙ ap (λ (l : List ℕ). bits 2 c ++ l) (bits-mod 10 10 i (omega arith)))
+    (bits-mod n n x (omega arith))
+
+pub update-bits : (i x : ℕ) → bits 44 ((1024 + i % 1024) * 4294967296 + x % 4294967296)
+    ≡ bits 2 1 ++ bits 10 i ++ bits 32 x
+update-bits i x = fields 1 i 32 x
+
+pub keep-bits : (a b : ℕ) → bits 22 ((2048 + a % 1024) * 1024 + b % 1024) ≡ bits 2 2 ++ bits 10 a ++ bits 10 b
+keep-bits a b = fields 2 a 10 b
 
 -- ---- an edit
 
--- the bits that are written of c, and its own
-module _ (d d′ : List ℕ) (p : ℕ) (c : Edit) where
-  edit-put : (e : Edit) (n : ℕ) → c ≡ e → n ≡ length (editBits (editMeant c))
-      → bitsOf d′ ≡ paste (bitsOf d) p (editBits (editMeant e)) n
-      → bitsOf d′ ≡ paste (bitsOf d) p (editBits (editMeant c)) (length (editBits (editMeant c)))
-  edit-put e n q en r =
-      r ∙ ap₂ (λ (x : Edit) (k : ℕ). paste (bitsOf d) p (editBits (editMeant x)) k) (sym q) en
-
-  pub edit-inserted : (k : Key) (x : ℕ) → c ≡ Insert k x
-      → bitsOf d′ ≡ paste (bitsOf d) p (bits 2 0 ++ keyBits k ++ bits 32 x) 290
-      → bitsOf d′ ≡ paste (bitsOf d) p (editBits (editMeant c)) (length (editBits (editMeant c)))
-  unfolding editBits
-  edit-inserted k x q r = edit-put (Insert k x) 290 q (size-insert c k x q) r
-
-  pub edit-updated : (i x : ℕ) → c ≡ Update i x → bitsOf d′ ≡ paste (bitsOf d) p (bits 2 1 ++ bits 10 i ++ bits 32 x) 44
-      → bitsOf d′ ≡ paste (bitsOf d) p (editBits (editMeant c)) (length (editBits (editMeant c)))
-  unfolding editBits
-  edit-updated i x q r = edit-put (Update i x) 44 q (size-update c i x q) r
-
-  pub edit-kept : (a b : ℕ) → c ≡ KeepChunk a b → bitsOf d′ ≡ paste (bitsOf d) p (bits 2 2 ++ bits 10 a ++ bits 10 b) 22
-      → bitsOf d′ ≡ paste (bitsOf d) p (editBits (editMeant c)) (length (editBits (editMeant c)))
-  unfolding editBits
-  edit-kept a b q r = edit-put (KeepChunk a b) 22 q (size-keep c a b q) r
-
-module _ (p n : ℕ) (c : Edit) (h : p + length (editBits (editMeant c)) ≤ n) where
-  pub room-insert : (k : Key) (x : ℕ) → c ≡ Insert k x → p + 290 ≤ n
+module _ (d d′ : List ℕ) (p : ℕ) (c : Edit) (h : p + length (editBits (editMeant c)) ≤ 8 * length d) where
+  pub room-insert : (k : Key) (x : ℕ) → c ≡ Insert k x → p + 290 ≤ 8 * length d
   room-insert k x q = omega (arith, size-insert c k x q)
 
-  pub room-update : (i x : ℕ) → c ≡ Update i x → p + 44 ≤ n
-  room-update i x q = omega (arith, size-update c i x q)
+  pub edit-inserted : (k : Key) (x : ℕ) → c ≡ Insert k x
+      → d′ ≡ withBits d p (bits 2 0 ++ keyBits k ++ bits 32 x)
+      → d′ ≡ withBits d p (editBits (editMeant c))
+  unfolding editBits
+  edit-inserted k x q e = e ∙ ap (λ (z : Edit). withBits d p (editBits (editMeant z))) (sym q)
 
-  pub room-keep : (a b : ℕ) → c ≡ KeepChunk a b → p + 22 ≤ n
-  room-keep a b q = omega (arith, size-keep c a b q)
+  pub edit-updated : (i x r : ℕ) → c ≡ Update i x → bits 44 r ≡ bits 2 1 ++ bits 10 i ++ bits 32 x
+      → d′ ≡ withNumber d p 44 r
+      → d′ ≡ withBits d p (editBits (editMeant c))
+  unfolding editBits
+  edit-updated i x r q b e =
+      e ∙ number-is d p 44 r (omega arith) (omega (arith, size-update c i x q)) ∙ ap (withBits d p) b
+      ∙ ap (λ (z : Edit). withBits d p (editBits (editMeant z))) (sym q)
+
+  pub edit-kept : (a b r : ℕ) → c ≡ KeepChunk a b → bits 22 r ≡ bits 2 2 ++ bits 10 a ++ bits 10 b
+      → d′ ≡ withNumber d p 22 r
+      → d′ ≡ withBits d p (editBits (editMeant c))
+  unfolding editBits
+  edit-kept a b r q w e =
+      e ∙ number-is d p 22 r (omega arith) (omega (arith, size-keep c a b q)) ∙ ap (withBits d p) w
+      ∙ ap (λ (z : Edit). withBits d p (editBits (editMeant z))) (sym q)

@@ -18,33 +18,14 @@ use mir.Val.{Fits}
 use Rattle.format.specs.Bits.{bits, bitsOf, pack, bytesFor, AllBelow}
 use Rattle.format.specs.Edit.{Edit, WellFormed, AllWellFormed, editBits, editsBits, recordOf}
 use Rattle.format.specs.Edit.Edit.{Insert, Update, Keep}
-use Rattle.facts.proofs.BitsLaws.{
-  allBelow-append,
-  allBelow-bits,
-  allBelow-bitsOf,
-  allBelow-drop,
-  allBelow-pack,
-  allBelow-replicate,
-  allBelow-take,
-  bitsOf-append,
-  bitsOf-pack,
-  bytesFor-holds,
-  bytesFor-least,
-  bytesFor-mono,
-  bytesFor-slack,
-  fill-exact,
-  length-bits,
-  length-bitsOf,
-  length-pack,
-  pack-zeros,
-  packed,
-}
+use Rattle.facts.proofs.BitsLaws.{allBelow-append, allBelow-bits, allBelow-bitsOf, allBelow-drop, allBelow-pack, allBelow-replicate, allBelow-take, bitsOf-append, bytesFor-holds, bytesFor-least, bytesFor-mono, bytesFor-slack, length-bits, length-bitsOf, length-pack, pack-zeros, packed}
 use Rattle.facts.proofs.RecordLaws.{editsBits-append, headed, recordOf-pack, length-editBits}
 use Rattle.words.proofs.NumberLaws.{bits-zero}
 use Rattle.words.proofs.WindowLaws.{drop-append, drop-take}
+use Rattle.parts.specs.Parts.{withNumber}
+use Rattle.parts.proofs.BitLaws.{withNumber-inside}
 use Rattle.branch_ops.specs.declared.writer.RecordWriter.{RecordWriter}
 use Rattle.branch_ops.specs.Writer.{
-  Bytes,
   withBits,
   startingWriter,
   hasRoom,
@@ -56,6 +37,7 @@ use Rattle.branch_ops.specs.Writer.{
   pushedAll,
   recordIn,
 }
+use Rattle.branch_ops.proofs.PutLaws.{allBelow-paste, bitsOf-packed, length-withBits}
 
 -- ---- one edit more
 
@@ -128,17 +110,8 @@ module _ (w : RecordWriter) (d : List ℕ) (e : Edit) where
       push-writer =
           ap (λ (k : ℕ). record { edits = w .edits + 1; bit = w .bit + k }) en ∙ sym (pushedWriter-room has-room)
 
-      pub push-bytes : (d′ : List ℕ) → bitsOf d′ ≡ paste (bitsOf d) (w .bit) (editBits e) (length (editBits e))
-          → AllBelow 256 d′
-          → d′ ≡ pushedBytes w d e
-      unfolding withBits
-      push-bytes d′ q b =
-          let x : List ℕ = paste (bitsOf d) (w .bit) (editBits e) (length (editBits e)) in
-          let l : length x ≡ length (bitsOf d) =
-          length-paste (bitsOf d) (w .bit) (editBits e) (length (editBits e))
-          (omega (arith, length-bitsOf d, push-room)) (omega arith) in
-          let s : length d′ ≡ length d = omega (arith, ap length q, l, length-bitsOf d, length-bitsOf d′) in
-          packed d′ x b q ∙ ap (λ (k : ℕ). pack k x) s ∙ sym (pushedBytes-room has-room)
+      pub push-bytes : (d′ : List ℕ) → d′ ≡ withBits d (w .bit) (editBits e) → d′ ≡ pushedBytes w d e
+      push-bytes d′ q = q ∙ sym (pushedBytes-room has-room)
 
 -- ---- the end
 
@@ -172,6 +145,12 @@ module _ (w : RecordWriter) (d : List ℕ) where
   unfolding finishedBytes
   finishedBytes-none q = ap (λ (b : Bool). cond b (pack (length d) finishedBits) d) q
 
+  below-padded : AllBelow 2 paddedBits
+  below-padded =
+      let pad : ℕ = 8 * bytesFor (w .bit) - w .bit in
+      allBelow-paste (bitsOf d) (w .bit) (replicate pad 0) pad (allBelow-bitsOf d)
+      (allBelow-replicate 2 pad 0 (omega arith))
+
   length-padded : w .bit ≤ 8 * bytesFor (w .bit) → bytesFor (w .bit) ≤ length d → length paddedBits ≡ 8 * length d
   length-padded h l =
       let pad : ℕ = 8 * bytesFor (w .bit) - w .bit in
@@ -203,29 +182,27 @@ module _ (w : RecordWriter) (d : List ℕ) where
       pub finish-fits : Fits w64 (8 * size)
       finish-fits = omega arith
 
-      pub finish-room : w .bit + (8 * size - w .bit) ≤ 8 * length d
-      finish-room = omega (arith, finish-sub)
-
-      pub finish-near : w .bit < 2 ^ 32
-      finish-near = omega (arith, finish-sub)
-
       pub finish-pad : 8 * size - w .bit ≤ 64
       finish-pad = omega (arith, size-is, bytesFor-slack (w .bit))
 
-      pub finish-bytes : (d₁ d₂ : List ℕ)
-          → bitsOf d₁ ≡ paste (bitsOf d) (w .bit) (bits (8 * size - w .bit) 0) (8 * size - w .bit)
-          → bitsOf d₂ ≡ paste (bitsOf d₁) 0 (bits 10 (w .edits)) 10 → Bytes 10 d₂ → d₂ ≡ finishedBytes w d
-      finish-bytes d₁ d₂ q₁ q₂ b =
+      pub finish-bytes : (d₁ d₂ : List ℕ) → d₁ ≡ withNumber d (w .bit) (8 * size - w .bit) 0
+          → d₂ ≡ withNumber d₁ 0 10 (w .edits)
+          → d₂ ≡ finishedBytes w d
+      finish-bytes d₁ d₂ q₁ q₂ =
           let pad : ℕ = 8 * bytesFor (w .bit) - w .bit in
-          let ep : 8 * size - w .bit ≡ pad = ap (λ (k : ℕ). 8 * k - w .bit) size-is in
-          let r₁ : bitsOf d₁ ≡ paddedBits =
-          q₁ ∙ ap (λ (k : ℕ). paste (bitsOf d) (w .bit) (bits k 0) k) ep
-          ∙ ap (λ (z : List ℕ). paste (bitsOf d) (w .bit) z pad) (bits-zero pad) in
-          let r₂ : bitsOf d₂ ≡ finishedBits = q₂ ∙ ap (λ (z : List ℕ). paste z 0 (bits 10 (w .edits)) 10) r₁ in
-          let l : length finishedBits ≡ 8 * length d =
-          length-finished (bytesFor-holds (w .bit)) (omega (arith, size-is)) (omega arith) in
-          let s : length d₂ ≡ length d = omega (arith, ap length r₂, l, length-bitsOf d₂) in
-          packed d₂ finishedBits (b .known (omega arith)) r₂ ∙ ap (λ (k : ℕ). pack k finishedBits) s
+          let c : List ℕ = bits 10 (w .edits) in
+          let z : 8 * size - w .bit ≡ pad = ap (λ (k : ℕ). 8 * k - w .bit) size-is in
+          let room : bytesFor (w .bit) ≤ length d = omega (arith, size-is) in
+          let holds : w .bit ≤ 8 * bytesFor (w .bit) = bytesFor-holds (w .bit) in
+          let r₁ : d₁ ≡ pack (length d) paddedBits =
+          q₁ ∙ withNumber-inside d (w .bit) (8 * size - w .bit) 0 finish-pad (omega (arith, finish-sub))
+          ∙ ap (λ (k : ℕ). pack (length d) (paste (bitsOf d) (w .bit) (bits k 0) k)) z
+          ∙ ap (λ (x : List ℕ). pack (length d) (paste (bitsOf d) (w .bit) x pad)) (bits-zero pad) in
+          let l₁ : length d₁ ≡ length d = ap length r₁ ∙ length-pack (length d) paddedBits in
+          let b₁ : bitsOf d₁ ≡ paddedBits =
+          ap bitsOf r₁ ∙ bitsOf-packed d paddedBits below-padded (length-padded holds room) in
+          q₂ ∙ withNumber-inside d₁ 0 10 (w .edits) (omega arith) (omega arith)
+          ∙ ap₂ (λ (k : ℕ) (x : List ℕ). pack k (paste x 0 c 10)) l₁ b₁
           ∙ sym (finishedBytes-end (hasEnd-enough (omega arith) (omega (arith, size-is))))
 
 pub size-answer : (w : RecordWriter) (size : ℕ) → size ≡ bytesFor (w .bit + 0) → size ≡ bytesFor (w .bit)
@@ -253,15 +230,6 @@ drop-front : (n p : ℕ) (x y : List ℕ) → n ≤ p → length x ≡ p → dro
 drop-front n p x y h e =
     let z : n - length x ≡ 0 = omega arith in
     drop-append n x y ∙ ap (λ (k : ℕ). drop n x ++ drop k y) z
-
-bitsOf-packed : (d x : List ℕ) → AllBelow 2 x → length x ≡ 8 * length d → bitsOf (pack (length d) x) ≡ x
-bitsOf-packed d x b e = bitsOf-pack (length d) x b ∙ fill-exact x (8 * length d) e
-
-allBelow-paste : (x : List ℕ) (p : ℕ) (y : List ℕ) (n : ℕ) → AllBelow 2 x → AllBelow 2 y → AllBelow 2 (paste x p y n)
-allBelow-paste x p y n hx hy =
-    allBelow-append 2 (take p x ++ take n y) (drop (p + n) x)
-    (allBelow-append 2 (take p x) (take n y) (allBelow-take 2 p x hx) (allBelow-take 2 n y hy))
-    (allBelow-drop 2 (p + n) x hx)
 
 editsBits-one : (e : Edit) → editsBits (e ∷ []) ≡ editBits e
 unfolding editsBits
@@ -401,10 +369,7 @@ module _ (d : List ℕ) (w : RecordWriter) (es : List Edit) (h : Holds d w es) (
       let t : List ℕ = pack (length d) x in
       let two : 2 ≤ length d = omega (arith, bytesFor-holds (w .bit), h .bit) in
       let bx : AllBelow 2 x =
-      allBelow-paste (paddedBits w d) 0 (bits 10 (w .edits)) 10
-      (allBelow-paste (bitsOf d) (w .bit) (replicate pad 0) pad (allBelow-bitsOf d)
-      (allBelow-replicate 2 pad 0 (omega arith)))
-      (allBelow-bits 10 (w .edits)) in
+      allBelow-paste (paddedBits w d) 0 (bits 10 (w .edits)) 10 (below-padded w d) (allBelow-bits 10 (w .edits)) in
       let lx : length x ≡ 8 * length d = length-finished w d (bytesFor-holds (w .bit)) v two in
       let lk : length (take k t) ≡ k = length-take-le k t (omega (arith, length-pack (length d) x)) in
       let whole : bitsOf (take k t) ++ bitsOf (drop k t) ≡ x =
@@ -418,10 +383,6 @@ module _ (d : List ℕ) (w : RecordWriter) (es : List Edit) (h : Holds d w es) (
       ∙ sym (recordOf-pack es ∙ ap (λ (n : ℕ). pack (bytesFor n) (headed es)) headed-length)
 
 -- ---- all edits of a record
-
-length-withBits : (d : List ℕ) (p : ℕ) (bs : List ℕ) → length (withBits d p bs) ≡ length d
-unfolding withBits
-length-withBits d p bs = length-pack (length d) (paste (bitsOf d) p bs (length bs))
 
 length-pushedBytes : (w : RecordWriter) (d : List ℕ) (e : Edit) → length (pushedBytes w d e) ≡ length d
 length-pushedBytes w d e = go (hasRoom w d e) refl

@@ -1,20 +1,16 @@
 -- The writing of an edit record, edit by edit. Document 01, "Edit record".
--- In order: Bytes · withBits · startingWriter hasRoom pushedWriter pushedBytes · hasEnd finishedBytes ·
+-- In order: withBits · startingWriter hasRoom pushedWriter pushedBytes · hasEnd finishedBytes ·
 -- Writing pushedAll recordIn.
 -- Assumes nothing.
 use mathlib.Core.Bool.{Bool, cond, _&&_}
 use mathlib.Core.List.{List, [], _∷_}
-use Prim.Native.Nat.{ℕ, _+_, _-_, _*_, _<_, min, max}
+use Prim.Native.Nat.{ℕ, _+_, _-_, _*_, min, max}
 use lib.Dec.{ltb, leb}
 use lib.ListN.{length, replicate}
 use lib.Seq.{paste}
-use Rattle.format.specs.Bits.{bits, bitsOf, pack, bytesFor, AllBelow}
+use Rattle.format.specs.Bits.{bits, bitsOf, pack, bytesFor}
 use Rattle.format.specs.Edit.{Edit, editBits}
 use Rattle.branch_ops.specs.declared.writer.RecordWriter.{RecordWriter}
-
--- Where n bits were written, if any, d is known to be bytes.
-pub record Bytes (n : ℕ) (d : List ℕ) : Type 0 where
-  pub known : 0 < n → AllBelow 256 d
 
 -- The bytes d with bs in the bits from p on; every other bit is as it was.
 unfoldable pub withBits : List ℕ → ℕ → List ℕ → List ℕ

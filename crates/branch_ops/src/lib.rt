@@ -2,5 +2,4 @@
 // and the writing of a record. Document 01, "The normal page", "Edit record".
 pub mod choice;
 mod number;
-mod put;
 pub mod writer;

@@ -3,19 +3,62 @@
 // What it means: specs/Writer.antt; that the bytes are `recordOf` of the edits: `holds-finish` of
 // proofs/WriterLaws.antt.
 use crate::number;
-use crate::put;
 use edits::edit::Edit;
+use parts::bits;
+use rows::key::Key;
+ghost use mathlib.Core.List.{_++_};
 ghost use mathlib.Core.Path.{_≡_};
-ghost use Prim.Native.Nat.{_+_};
-ghost use Rattle.format.specs.Bits.{bytesFor};
+ghost use Prim.Native.Nat.{_+_, _*_, _^_, _≤_, _<_};
+ghost use lib.ListN.{length};
+ghost use Rattle.format.specs.Bits.{bits, bytesFor};
+ghost use Rattle.format.specs.Edit.{editBits};
+ghost use Rattle.rows.specs.Keys.{keyBits};
 ghost use Rattle.edits.specs.Record.{editMeant};
 ghost use Rattle.branch_ops.specs.Writer.{startingWriter, pushedWriter, pushedBytes};
-ghost use Rattle.branch_ops.specs.Writer.{finishedBytes};
+ghost use Rattle.branch_ops.specs.Writer.{finishedBytes, withBits};
 
 // The most edits that a record can have, and the bytes of the longest record: 1,023 inserts.
 const MOST: usize = 1023;
 
 const LONGEST: usize = 37085;
+
+// The 44 bits of an Update as a number: its kind, ten bits of position, 32 of pointer.
+fn update_number(i: usize, pointer: u64) -> u64
+    ensures answer { λ r. ⌜ bits 44 r ≡ bits 2 1 ++ bits 10 i ++ bits 32 pointer ⌝ }
+{
+    (1024 + (i % 1024) as u64) * 0x100000000 + pointer % 0x100000000
+}
+
+// The 22 bits of a KeepChunk as a number: its kind, and ten bits of each position.
+fn keep_number(a: usize, b: usize) -> u64
+    ensures answer { λ r. ⌜ bits 22 r ≡ bits 2 2 ++ bits 10 a ++ bits 10 b ⌝ }
+{
+    ((2048 + a % 1024) * 1024 + b % 1024) as u64
+}
+
+// An Insert from bit p on: its kind, its key, 32 bits of pointer.
+fn put_insert(d: &mut [u8], p: usize, k: Key, pointer: u64)
+    requires { ⌜ (p + 290 ≤ 8 * length (now d)) × (p < 2 ^ 30) ⌝ }
+    ensures written { λ _. ⌜ now (d .exit)
+        ≡ withBits (now (d .entry)) p (bits 2 0 ++ keyBits k ++ bits 32 pointer) ⌝ }
+{
+    bits::put_number(d, p, 2, 0);
+    bits::put_key(d, p + 2, k, 0, 256);
+    bits::put_number(d, p + 258, 32, pointer);
+}
+
+// An edit from bit p on.
+fn put_edit(d: &mut [u8], p: usize, e: Edit)
+    requires { ⌜ (p + length (editBits (editMeant e)) ≤ 8 * length (now d)) × (p < 2 ^ 30) ⌝ }
+    ensures written { λ _. ⌜ now (d .exit)
+        ≡ withBits (now (d .entry)) p (editBits (editMeant e)) ⌝ }
+{
+    match e {
+        Edit::Insert(k, pointer) => put_insert(d, p, k, pointer),
+        Edit::Update(i, pointer) => bits::put_number(d, p, 44, update_number(i, pointer)),
+        Edit::KeepChunk(a, b) => bits::put_number(d, p, 22, keep_number(a, b)),
+    }
+}
 
 // How many edits are written, and the bit behind the last.
 pub struct RecordWriter {
@@ -44,7 +87,7 @@ impl RecordWriter {
         if number::least(d.len(), LONGEST) < number::bytes_for(self.bit, size) {
             return self;
         }
-        put::put_edit(d, self.bit, e);
+        put_edit(d, self.bit, e);
         RecordWriter {
             edits: self.edits + 1,
             bit: self.bit + size,
@@ -66,8 +109,8 @@ impl RecordWriter {
         if room < size {
             return size;
         }
-        put::put_number(d, self.bit, 8 * size - self.bit, 0);
-        put::put_number(d, 0, 10, self.edits as u64);
+        bits::put_number(d, self.bit, 8 * size - self.bit, 0);
+        bits::put_number(d, 0, 10, self.edits as u64);
         size
     }
 }

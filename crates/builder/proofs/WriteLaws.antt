@@ -6,7 +6,7 @@ use mathlib.Core.List.{List, _++_}
 use mathlib.Core.Path.{_≡_, refl, sym, ap, ap₂, subst, _∙_}
 use Prim.Native.Nat.{ℕ, _+_, _*_, _/_, _-_, _≤_, _<_}
 use native.Mathlib.Omega.{arith}
-use borrow.Author.Tests.{eq-eqb, ne-eqb, lt-ltb, le-ltb, le-leb, lt-leb, ltb-true}
+use borrow.Author.Tests.{eq-eqb, ne-eqb, lt-ltb, le-ltb, le-leb, lt-leb, ltb-true, leb-true}
 use lib.Dec.{eqb, ltb, leb}
 use lib.ListN.{length, take}
 use Rattle.format.specs.Bits.{bytesFor, le, pack}
@@ -16,7 +16,7 @@ use Rattle.format.specs.Normal.{storedLengths, sum, words}
 use Rattle.facts.proofs.ChoiceLaws.{choice-permitted, fits-true, permitted-shared}
 use Rattle.facts.proofs.EntryLaws.{length-keys}
 use Rattle.facts.proofs.StoredLaws.{sharedByAll-bound}
-use Rattle.rows.specs.Rows.{rows, rowKey}
+use Rattle.rows.specs.Rows.{rows}
 use Rattle.rows.proofs.RowsLaws.{length-rows}
 use Rattle.parts.proofs.PartLaws.{storedSum-in}
 use Rattle.parts.specs.Parts.{storedSum, rowKeys, rowLengths, headerBytes}
@@ -92,10 +92,7 @@ writable-row out t n m q e =
 pub laidOut-same : (number : ℕ) (t : List ℕ) (n m q : ℕ) (f g : ℕ → List ℕ) → ((i : ℕ) → i < n → f i ≡ g i)
     → laidOut number t n m q f ≡ laidOut number t n m q g
 unfolding laidOut rowBits
-laidOut-same number t n m q f g e =
-    ap (λ (b : List ℕ). headerBytes number n m q ++ words 2 (running 0 (rowLengths n t m q))
-    ++ pack (4086 - 6 * n) (take q (rowKey t 0) ++ b) ++ words 4 (pointers (rows n t)))
-    (rowsBits-same f g n 0 n (omega arith) e)
+laidOut-same number t n m q f g e = rw (rowsBits-same f g n 0 n (omega arith) e)
 
 pub laidOut-own : (number : ℕ) (t : List ℕ) (n m q : ℕ) → 1 ≤ n
     → laidOut number t n m q (ownBits t m q) ≡ pageUnder number (rows n t) m q
@@ -130,39 +127,49 @@ wrote-none out base t number bn n m q r after w =
 
 -- ---- with a base
 
-module _ (out base t : List ℕ) (number bn bm bq n m q : ℕ) (r : Bool) (after : List ℕ) where
-  pub wrote-over : bq ≡ q → length base ≤ 4096 → bn ≤ 681 → bm ≤ 681
-      → Wrote out t n m q (laidOut number t n m q (overBits base bn bm t m q)) r after
-      → Wrote out t n m q (pageOver number base bn bm bq t n m q) r after
-  unfolding pageOver usable
-  wrote-over e l hn hm w =
-      subst (λ (p : List ℕ). Wrote out t n m q p r after)
-      (rw (eq-eqb bq q e, le-leb (length base) 4096 l, le-leb bn 681 hn, le-leb bm 681 hm)) w
+-- its tests: another prefix, a base that is too long, one of too many entries, and the last
+module _ (base : List ℕ) (bn bm bq q : ℕ) where
+  pub other-prefix : (bq ≡ q → ⊥) → false ≡ usable base bn bm bq q
+  unfolding usable
+  other-prefix h = rw (ne-eqb bq q h)
 
-  module _ (w : Wrote out t n m q (pageUnder number (rows n t) m q) r after) where
-    pub wrote-other-prefix : (bq ≡ q → ⊥) → Wrote out t n m q (pageOver number base bn bm bq t n m q) r after
-    unfolding pageOver usable
-    wrote-other-prefix h = subst (λ (p : List ℕ). Wrote out t n m q p r after) (rw (ne-eqb bq q h)) w
+  pub long-base : bq ≡ q → 4096 < length base → false ≡ usable base bn bm bq q
+  unfolding usable
+  long-base e l = rw (eq-eqb bq q e, lt-leb (length base) 4096 l)
 
-    pub wrote-long-base : bq ≡ q → 4096 < length base
+  pub many-entries : bq ≡ q → length base ≤ 4096 → 681 < bn → false ≡ usable base bn bm bq q
+  unfolding usable
+  many-entries e l h = rw (eq-eqb bq q e, le-leb (length base) 4096 l, lt-leb bn 681 h)
+
+  pub few-entries : bq ≡ q → length base ≤ 4096 → bn ≤ 681 → leb bm 681 ≡ usable base bn bm bq q
+  unfolding usable
+  few-entries e l h = rw (eq-eqb bq q e, le-leb (length base) 4096 l, le-leb bn 681 h)
+
+module _ (base : List ℕ) (bn bm bq q : ℕ) (u : Bool) (eu : u ≡ usable base bn bm bq q) where
+  module _ (h : u ≡ true) where
+    tests : (eqb bq q ≡ true) × (leb (length base) 4096 ≡ true) × (leb bn 681 ≡ true) × (leb bm 681 ≡ true)
+    unfolding usable
+    tests = all-four (eqb bq q) (leb (length base) 4096) (leb bn 681) (leb bm 681) (sym eu ∙ h)
+
+    pub usable-size : length base ≤ 4096
+    usable-size = leb-true (length base) 4096 (tests .1)
+
+    pub usable-count : bn ≤ 681
+    usable-count = leb-true bn 681 (tests .2)
+
+    pub usable-compressed : bm ≤ 681
+    usable-compressed = leb-true bm 681 (tests .3)
+
+  module _ (out t : List ℕ) (number n m : ℕ) (r : Bool) (after : List ℕ) where
+    pub wrote-over : u ≡ true → Wrote out t n m q (laidOut number t n m q (overBits base bn bm t m q)) r after
         → Wrote out t n m q (pageOver number base bn bm bq t n m q) r after
-    unfolding pageOver usable
-    wrote-long-base e l =
-        subst (λ (p : List ℕ). Wrote out t n m q p r after) (rw (eq-eqb bq q e, lt-leb (length base) 4096 l)) w
+    unfolding pageOver
+    wrote-over h w = subst (λ (p : List ℕ). Wrote out t n m q p r after) (rw (sym eu ∙ h)) w
 
-    pub wrote-many : bq ≡ q → length base ≤ 4096 → 681 < bn
+    pub wrote-alone : u ≡ false → Wrote out t n m q (pageUnder number (rows n t) m q) r after
         → Wrote out t n m q (pageOver number base bn bm bq t n m q) r after
-    unfolding pageOver usable
-    wrote-many e l h =
-        subst (λ (p : List ℕ). Wrote out t n m q p r after)
-        (rw (eq-eqb bq q e, le-leb (length base) 4096 l, lt-leb bn 681 h)) w
-
-    pub wrote-many-compressed : bq ≡ q → length base ≤ 4096 → bn ≤ 681 → 681 < bm
-        → Wrote out t n m q (pageOver number base bn bm bq t n m q) r after
-    unfolding pageOver usable
-    wrote-many-compressed e l g h =
-        subst (λ (p : List ℕ). Wrote out t n m q p r after)
-        (rw (eq-eqb bq q e, le-leb (length base) 4096 l, le-leb bn 681 g, lt-leb bm 681 h)) w
+    unfolding pageOver
+    wrote-alone h w = subst (λ (p : List ℕ). Wrote out t n m q p r after) (rw (sym eu ∙ h)) w
 
 -- ---- for callers
 

@@ -20,7 +20,7 @@ ghost use Rattle.rows.specs.Keys.{keyBits};
 ghost use Rattle.rows.specs.Rows.{rows};
 ghost use Rattle.parts.specs.Parts.{leftOut, rowLengths};
 ghost use Rattle.builder.specs.Writes.{rowBits, laidOut, Wrote, Pushed};
-ghost use Rattle.builder.specs.Over.{overBits, pageOver};
+ghost use Rattle.builder.specs.Over.{usable, overBits, pageOver};
 use crate::kept;
 use parts::bits;
 use parts::fields;
@@ -244,6 +244,22 @@ pub fn write_page(out: &mut [u8], number: u32, t: &[u64], n: usize, m: usize, q:
     write_rows(out, number, &none, 0, 0, t, n, m, q)
 }
 
+// Whether a base can help: its prefix is as long, and it has no more bytes and entries than a page.
+fn helps(base: &[u8], bn: usize, bm: usize, bq: usize, q: usize) -> bool
+    ensures answer { λ r. ⌜ r ≡ usable (now (base .entry)) bn bm bq q ⌝ }
+{
+    if bq != q {
+        return false;
+    }
+    if BranchNodeBuilder::PAGE_SIZE < base.len() {
+        return false;
+    }
+    if 681 < bn {
+        return false;
+    }
+    bm <= 681
+}
+
 // The same with the help of a base page said to have bn entries, bm of them compressed by bq bits.
 // Where bq is q, a row whose source is one of these, stored there in exactly max(length - q, 0)
 // bits, has its bits from there, and rows side by side in both pages move as one run; any other row
@@ -265,17 +281,8 @@ pub fn write_page_over(
         (pageOver number (now (base .entry)) bn bm bq (now (t .entry)) n m q)
         r (now (out .exit)) ⌝ }
 {
-    if bq != q {
-        return write_page(out, number, t, n, m, q);
+    if helps(base, bn, bm, bq, q) {
+        return write_rows(out, number, base, bn, bm, t, n, m, q);
     }
-    if BranchNodeBuilder::PAGE_SIZE < base.len() {
-        return write_page(out, number, t, n, m, q);
-    }
-    if 681 < bn {
-        return write_page(out, number, t, n, m, q);
-    }
-    if 681 < bm {
-        return write_page(out, number, t, n, m, q);
-    }
-    write_rows(out, number, base, bn, bm, t, n, m, q)
+    write_page(out, number, t, n, m, q)
 }

@@ -6,7 +6,7 @@ use Prim.Native.Nat.{ℕ, _*_, _^_}
 use lib.ListN.{replicate}
 use Rattle.format.specs.Answer.{Answer}
 use Rattle.format.specs.Edit.{recordOf}
-use Rattle.format.specs.Edit.Edit.{Insert, Update, Keep}
+use Rattle.format.specs.Edit.Edit.{Insert, Keep}
 use Rattle.format.proofs.Samples.{hex, key}
 use Rattle.rows.specs.Rows.{rows}
 use Rattle.edits.specs.Apply.{newCount, newTable}

@@ -1,28 +1,33 @@
 -- Laws of bits in a slice.
--- In order: bits of a key copied; bytes cleared; bits cleared.
+-- In order: bits of a key copied; a number's bits; bytes cleared; bits cleared.
 -- Assumes nothing.
-use mathlib.Core.Bool.{true}
+use mathlib.Core.Bool.{Bool, true, false}
 use mathlib.Core.List.{List, [], _∷_, _++_, append-assoc, append-nil}
 use mathlib.Core.Path.{_≡_, refl, sym, ap, ap₂, _∙_}
-use Prim.Native.Nat.{ℕ, zero, suc, _+_, _-_, _*_, _/_, _%_, _≤_, _<_}
+use Prim.Native.Nat.{ℕ, zero, suc, _+_, _-_, _*_, _/_, _%_, _^_, _≤_, _<_}
 use native.Mathlib.Omega.{arith}
 use mir.Syntax.{w8}
 use mir.Val.{Fits}
 use lib.ListN.{getD, length, take, drop, set, length-set, replicate, length-replicate, replicate-append-replicate}
-use lib.Seq.{paste, take-all, take-paste, take-suc-set}
+use borrow.Author.Tests.{le-leb, lt-leb}
+use lib.Seq.{drop-append-le, drop-at, paste, take-all, take-at, take-paste, take-suc-set}
 use Rattle.format.specs.Answer.{afterwards, first, unless}
-use Rattle.format.specs.Bits.{bitsOf, pack}
+use Rattle.format.specs.Bits.{bits, bitsOf, pack}
 use Rattle.format.specs.Key.{IsKey}
-use Rattle.format.specs.Ranges.{bitCopy, inside}
+use Rattle.format.specs.Ranges.{bitCopy, bitsCopied, inside}
 use Rattle.format.specs.declared.refusal.Outcome.{Outcome}
 use Rattle.facts.proofs.BitsLaws.{bitsOf-append, bitsOf-pack, bitsOf-zeros, fill-exact, length-bitsOf}
-use Rattle.facts.proofs.BitsLaws.{length-pack, take-zeros}
+use Rattle.facts.proofs.BitsLaws.{bits-mod, length-bits, length-pack, take-zeros}
 use Rattle.facts.proofs.BitsLaws.{allBelow-bitsOf, allBelow-take, at-below, pack-bitsOf, pack-zeros, packed}
 use Rattle.facts.proofs.RangesLaws.{bitsOf-bitsCopied}
 use Rattle.bit_ops.specs.Calls.{Copied}
 use Rattle.bit_ops.proofs.FieldLaws.{bitsOf-take}
 use Rattle.bit_ops.proofs.RunLaws.{end-inside}
-use Rattle.parts.specs.Parts.{withKey, cleared}
+use Rattle.words.proofs.NumberLaws.{bits-split}
+use Rattle.rows.specs.declared.key.Key.{Key}
+use Rattle.rows.specs.Keys.{keyBits}
+use Rattle.rows.proofs.KeysLaws.{isKey-keyBits, keyBits-words}
+use Rattle.parts.specs.Parts.{withKey, withNumber, cleared}
 
 -- ---- bits of a key copied
 
@@ -58,6 +63,72 @@ bitsOf-withKey d at k from n y hd hk =
     rw (p, q) (bitsOf-bitsCopied d at b from n p q
     ∙ ap (λ (x : List ℕ). paste (bitsOf d) at (drop from x) n)
     (bitsOf-pack 32 k (y .bits) ∙ fill-exact k 256 (y .size)))
+
+-- the same, of the bytes
+pub withKey-inside : (d : List ℕ) (at : ℕ) (k : List ℕ) (from n : ℕ) → IsKey k → at + n ≤ 8 * length d → from + n ≤ 256
+    → withKey d at k from n ≡ pack (length d) (paste (bitsOf d) at (drop from k) n)
+unfolding withKey bitCopy bitsCopied unless first afterwards
+withKey-inside d at k from n y hd hk =
+    let b : List ℕ = pack 32 k in
+    let p : inside (length d) at n ≡ true = end-inside (length d) at n hd in
+    let q : inside (length b) from n ≡ true = end-inside (length b) from n (omega (arith, length-pack 32 k)) in
+    rw (p, q) (ap (λ (x : List ℕ). pack (length d) (paste (bitsOf d) at (drop from x) n))
+    (bitsOf-pack 32 k (y .bits) ∙ fill-exact k 256 (y .size)))
+
+-- ---- a number's bits
+
+drop-bits : (j k n : ℕ) → drop j (bits (j + k) n) ≡ bits k n
+drop-bits j k n =
+    ap (drop j) (bits-split j k n) ∙ drop-at (bits j (n / 2 ^ k)) (bits k (n % 2 ^ k)) j (length-bits j (n / 2 ^ k))
+    ∙ bits-mod k k n (omega arith)
+
+-- the n low bits of x stand before the bit 64 of a key that begins with it
+low-bits : (x n : ℕ) (s : List ℕ) → n ≤ 64 → take n (drop (64 - n) (bits 64 x ++ s)) ≡ bits n x
+low-bits x n s h =
+    let e : (64 - n) + n ≡ 64 = omega arith in
+    let l : length (bits 64 x) ≡ 64 = length-bits 64 x in
+    ap (take n) (drop-append-le (64 - n) (bits 64 x) s (omega arith)
+    ∙ ap (λ (w : ℕ). drop (64 - n) (bits w x) ++ s) (sym e) ∙ ap (λ (z : List ℕ). z ++ s) (drop-bits (64 - n) n x))
+    ∙ take-at (bits n x) s n (length-bits n x)
+
+low-key : (k : Key) (n : ℕ) → n ≤ 64
+    → take n (drop (64 - n) (bitsOf (pack 32 (keyBits k)))) ≡ take n (bits n (k .a))
+low-key k n h =
+    let y : IsKey (keyBits k) = isKey-keyBits k in
+    ap (λ (z : List ℕ). take n (drop (64 - n) z))
+    (bitsOf-pack 32 (keyBits k) (y .bits) ∙ fill-exact (keyBits k) 256 (y .size) ∙ keyBits-words k)
+    ∙ low-bits (k .a) n (bits 64 (k .b) ++ (bits 64 (k .c) ++ bits 64 (k .d))) h
+    ∙ sym (take-all n (bits n (k .a)) (omega (arith, length-bits n (k .a))))
+
+number-key : (d : List ℕ) (at n : ℕ) (k : Key) → n ≤ 64
+    → withKey d at (keyBits k) (64 - n) n ≡ withNumber d at n (k .a)
+unfolding withNumber withKey bitCopy bitsCopied unless first afterwards
+number-key d at n k h = go (inside (length d) at n) refl
+  where
+    go : (t : Bool) → inside (length d) at n ≡ t → withKey d at (keyBits k) (64 - n) n ≡ withNumber d at n (k .a)
+    go true q =
+        let p : inside (length (pack 32 (keyBits k))) (64 - n) n ≡ true =
+        end-inside (length (pack 32 (keyBits k))) (64 - n) n (omega (arith, length-pack 32 (keyBits k))) in
+        rw (q, p, le-leb n 64 h)
+        (ap (λ (z : List ℕ). pack (length d) (take at (bitsOf d) ++ z ++ drop (at + n) (bitsOf d))) (low-key k n h))
+    go false q = rw (q, le-leb n 64 h)
+
+module _ (d : List ℕ) (at n x : ℕ) where
+  -- what callers cite: at most a word, in bits that are there
+  pub withNumber-inside : n ≤ 64 → at + n ≤ 8 * length d
+      → withNumber d at n x ≡ pack (length d) (paste (bitsOf d) at (bits n x) n)
+  unfolding withNumber
+  withNumber-inside h q = rw (le-leb n 64 h, end-inside (length d) at n q)
+
+  -- what `put_number` leaves: of too many bits,
+  pub number-many : 64 < n → d ≡ withNumber d at n x
+  unfolding withNumber
+  number-many h = rw (lt-leb n 64 h)
+
+  -- and of a word at most
+  pub number-put : (d′ : List ℕ) → n ≤ 64
+      → d′ ≡ withKey d at (keyBits (record { a = x; b = 0; c = 0; d = 0 })) (64 - n) n → d′ ≡ withNumber d at n x
+  number-put d′ h e = e ∙ number-key d at n (record { a = x; b = 0; c = 0; d = 0 }) h
 
 -- ---- bytes cleared
 

@@ -1,15 +1,16 @@
 -- The parts of a page of a table's first n rows under a choice of m and q. Document 01, "The page", "The normal page".
--- In order: leftOut rowKeys rowLengths storedSum · withKey cleared · headerBytes withHeader withOffsets withPointers.
+-- In order: leftOut rowKeys rowLengths storedSum · withKey withNumber cleared · headerBytes withHeader withOffsets withPointers.
 -- Assumes nothing.
 use Prim.Native.Nat.{ℕ, _*_}
 use mathlib.Core.Bool.{cond, _&&_}
 use mathlib.Core.List.{List, _++_}
 use lib.ListN.{length, take, drop}
+use lib.Seq.{paste}
 use lib.Dec.{eqb, ltb, leb}
 use Rattle.format.specs.Answer.{afterwards}
-use Rattle.format.specs.Bits.{bitsOf, le, pack}
+use Rattle.format.specs.Bits.{bits, bitsOf, le, pack}
 use Rattle.format.specs.Normal.{keys, pointers, storedLengths, sum, running, words}
-use Rattle.format.specs.Ranges.{bitCopy}
+use Rattle.format.specs.Ranges.{bitCopy, inside}
 use Rattle.rows.specs.Rows.{rows}
 
 -- How many bits of its key entry i leaves out: q below m, none from m on.
@@ -35,6 +36,12 @@ storedSum t n m q = cond (leb n 681) (sum (rowLengths n t m q)) 0
 unfoldable pub withKey : List ℕ → ℕ → List ℕ → ℕ → ℕ → List ℕ
 unfolding afterwards bitCopy pack
 withKey d at k from len = afterwards (bitCopy d at (pack 32 k) from len) (λ x. x) d
+
+-- d with the n low bits of x in its bits from `at` on; d as it is where they are more than 64 or d has not so many.
+unfoldable pub withNumber : List ℕ → ℕ → ℕ → ℕ → List ℕ
+unfolding inside bits bitsOf pack
+withNumber d at n x =
+    cond (leb n 64 && inside (length d) at n) (pack (length d) (paste (bitsOf d) at (bits n x) n)) d
 
 -- d with zeros in its bits from `at` on; d as it is where it has none there.
 unfoldable pub cleared : List ℕ → ℕ → List ℕ

@@ -2,21 +2,20 @@
 -- In order: entries that are passed over; what an entry of the base meets; all of them.
 -- Not here: what is written of the edits (`WrittenLaws`).
 -- Assumes nothing.
-use mathlib.Core.Bool.{Bool, true, false, cond}
+use mathlib.Core.Bool.{Bool, true, false}
 use mathlib.Core.List.{List, [], _∷_, _++_, append-assoc}
-use mathlib.Core.Logic.{_≢_, inl, inr, _⊎_}
-use mathlib.Core.Path.{_≡_, refl, sym, ap, ap₂, subst, _∙_}
-use Prim.Native.Nat.{ℕ, zero, suc, _+_, _≤_, _<_}
+use mathlib.Core.Logic.{inl, inr, _⊎_}
+use mathlib.Core.Path.{_≡_, refl, sym, ap, ap₂, _∙_}
+use Prim.Native.Nat.{ℕ, suc, _+_, _≤_, _<_}
 use native.Mathlib.Omega.{arith}
 use borrow.Author.Tests.{eqb-false, eqb-true}
 use lib.Dec.{eqb}
-use lib.ListN.{drop, getD, length, length-append, take, take-append-drop}
-use lib.Seq.{drop-append-seam, drop-cons, length-take-le, take-suc}
+use lib.ListN.{drop, length, length-append}
+use lib.Seq.{drop-append-seam}
 use Rattle.format.specs.Bits.{value}
 use Rattle.format.specs.Key.{IsKey, below}
 use Rattle.format.specs.Page.{Entry, Sound}
-use Rattle.format.specs.Edit.{Edit, ascending, ascendingFrom, noEntry}
-use Rattle.format.specs.Edit.Edit.{Insert, Update, Keep}
+use Rattle.format.specs.Edit.{Edit, ascending, ascendingFrom}
 use Rattle.format.specs.Undo.{bring, joined, undoEdits}
 use Rattle.facts.proofs.AnswerLaws.{and-left, and-right}
 use Rattle.facts.proofs.KeyLaws.{below-false, below-value-key}

@@ -2,13 +2,13 @@
 -- In order: rows from a place on; the code's state after each kind of edit; after one entry of the base.
 -- Not here: what is written (`WrittenLaws`); that the edits are those of an undo (`WalkLaws`).
 -- Assumes nothing.
-use mathlib.Core.Bool.{Bool, true, false, cond, _&&_}
+use mathlib.Core.Bool.{Bool, true, false}
 use mathlib.Core.List.{List, [], _∷_}
-use mathlib.Core.Path.{_≡_, refl, sym, ap, ap₂, subst, _∙_}
+use mathlib.Core.Path.{_≡_, sym, ap, ap₂, _∙_}
 use Prim.Native.Nat.{ℕ, suc, _+_, _≤_, _<_}
 use native.Mathlib.Omega.{arith}
 use borrow.Author.Tests.{eq-eqb, le-ltb, lt-ltb, ne-eqb}
-use lib.Dec.{eqb, ltb}
+use lib.Dec.{eqb}
 use lib.ListN.{drop, drop-of-length-le, length}
 use lib.Seq.{drop-cons}
 use Rattle.format.specs.Key.{below}
@@ -20,7 +20,7 @@ use Rattle.rows.proofs.RowsLaws.{length-rows, rows-at}
 use Rattle.branch_ops.specs.Writer.{Writing, pushedAll, pushedBytes, pushedWriter}
 use Rattle.branch_ops.specs.declared.writer.RecordWriter.{RecordWriter}
 use Rattle.undo.specs.declared.Walk.{Walk}
-use Rattle.undo.specs.Walk.{Walking, begun, closed, kept, met, othered, skipped, stepped, walking, writingOf}
+use Rattle.undo.specs.Walk.{begun, closed, kept, met, othered, skipped, stepped, walking, writingOf}
 
 -- ---- rows
 

@@ -1,15 +1,14 @@
 -- `undo::skip` meets its contract: because all rows from `at` up to j have keys below the key.
 -- Assumes nothing.
 use mathlib.Core.Bool.{Bool, true, false, not, cond}
-use mathlib.Core.List.{List, [], _∷_}
-use mathlib.Core.Path.{_≡_, refl, sym, ap, ap₂, _∙_}
+use mathlib.Core.List.{List}
+use mathlib.Core.Path.{_≡_, refl, sym, ap, _∙_}
 use Prim.Native.Nat.{ℕ, suc, _+_, _-_, _≤_, _<_}
 use native.Mathlib.Omega.{arith}
 use borrow.Author.Needs.{needs}
 use borrow.Author.Tests.{not-true, not-false}
 use lib.ListN.{length, drop, drop-of-length-le}
 use Rattle.format.specs.Key.{below}
-use Rattle.format.specs.Page.{Entry}
 use Rattle.rows.specs.Keys.{keyBits}
 use Rattle.rows.specs.Rows.{rowKey, rowEntry, rows}
 use Rattle.rows.proofs.RowsLaws.{length-rows}

@@ -1,6 +1,7 @@
 -- `builder::page::put_page` meets its contract: because the header and the parts that are lent on make up the page.
 -- Assumes nothing.
 use borrow.Author.Needs.{needs}
+use native.Mathlib.Omega.{arith}
 use Rattle.builder.proofs.page.put_page.Statement.{statement}
 use Rattle.builder.proofs.page.put_page.Tie as tie
 use Rattle.builder.proofs.JoinLaws.{part-small, part-room, page-is}
@@ -44,17 +45,18 @@ part-put-bits-end c = search needs
 put-bits-requires : tie.Need-put-bits-requires
 put-bits-requires c κs =
     let h = c .before .before .before .before .before .before .before in
-    let a = h .before .before .before .before .before .args in
-    let o = c .before .before .before in (
-      search needs,
-      search needs,
-      search needs,
-      part-small (h .put-header .last .0) _ _ (a .n) _ _ (o .put-offsets .ensures) (search needs) (search needs),
-      part-room (h .put-header .last .0) _ _ (a .n) _ _ (o .put-offsets .ensures) (search needs) (search needs)
-          (search needs),
-      search needs,
-      search needs,
-      search needs,
+    let s = h .before .before .before .before .before in
+    let d = h .put-header .last .0 in
+    let o = c .before .before .before .put-offsets in
+    let a = s .args in (
+      s .pre .1,
+      s .pre .2,
+      s .pre .3,
+      part-small d (o .last .0) (a .t .now) (a .n) (a .m) (a .q) (o .ensures) (s .pre .2) (omega arith),
+      part-room d (o .last .0) (a .t .now) (a .n) (a .m) (a .q) (o .ensures) (s .pre .2) (omega arith) (s .pre .4),
+      s .pre .5,
+      s .pre .6,
+      s .pre .7,
     )
 
 sub-put-pointers : tie.Need-sub-put-pointers
@@ -78,7 +80,10 @@ returns c =
     let b = p .before .before .before .before in
     let o = b .before .before .before .before in
     let h = o .before .before .before .before in
-    page-is _ _ _ _ _ _ (o .put-offsets .ensures) (search needs) (search needs) _ _ _ _ _ (search needs)
+    let s = h .before .before .before .before .before in
+    let a = s .args in
+    page-is (h .put-header .last .0) (o .put-offsets .last .0) (a .t .now) (a .n) (a .m) (a .q) (o .put-offsets .ensures)
+    (s .pre .2) (omega arith) _ (a .out .now) (b .put-bits .last .0) (p .put-pointers .last .0) (a .number) (s .pre .0)
     (h .put-header .ensures) (b .put-bits .ensures) (p .put-pointers .ensures)
 
 pub put-page-spec : {M : Type 1} → statement M

@@ -6,8 +6,6 @@ use Rattle.branch_ops.proofs.WriterLaws.{
   past-end,
   finish-sub,
   finish-fits,
-  finish-room,
-  finish-near,
   finish-pad,
   finish-bytes,
   size-answer,
@@ -16,7 +14,7 @@ use borrow.Author.Needs.{needs}
 use Rattle.branch_ops.proofs.writer.RecordWriter.finish.Statement.{statement}
 use Rattle.branch_ops.proofs.writer.RecordWriter.finish.Tie as tie
 
-ruleset laws = (short-end, past-end, finish-sub, finish-fits, finish-room, finish-near, finish-pad, finish-bytes, size-answer)
+ruleset laws = (short-end, past-end, finish-sub, finish-fits, finish-pad, finish-bytes, size-answer)
 
 bytes-for-requires : tie.Need-bytes-for-requires
 bytes-for-requires c κs = search (needs, laws)

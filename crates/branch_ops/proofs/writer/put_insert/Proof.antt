@@ -1,11 +1,11 @@
--- `branch_ops::put::put_insert` meets its contract: its kind, its key and its pointer stand one behind the other.
+-- `branch_ops::writer::put_insert` meets its contract: its kind, its key and its pointer stand one behind the other.
 -- Assumes nothing.
-use Rattle.branch_ops.proofs.PutLaws.{put-insert, bytes-known}
 use borrow.Author.Needs.{needs}
-use Rattle.branch_ops.proofs.put.put_insert.Statement.{statement}
-use Rattle.branch_ops.proofs.put.put_insert.Tie as tie
+use Rattle.branch_ops.proofs.writer.put_insert.Statement.{statement}
+use Rattle.branch_ops.proofs.writer.put_insert.Tie as tie
+use Rattle.branch_ops.proofs.PutLaws.{put-insert}
 
-ruleset laws = (put-insert, bytes-known)
+ruleset laws = (put-insert)
 
 put-number-requires : tie.Need-put-number-requires
 put-number-requires c κs = search (needs, laws)

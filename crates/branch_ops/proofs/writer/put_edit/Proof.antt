@@ -1,18 +1,11 @@
--- `branch_ops::put::put_edit` meets its contract: each kind's bits are those of `editBits`.
+-- `branch_ops::writer::put_edit` meets its contract: each kind's bits are those of `editBits`.
 -- Assumes nothing.
-use Rattle.branch_ops.proofs.PutLaws.{
-  edit-inserted,
-  edit-updated,
-  edit-kept,
-  room-insert,
-  room-update,
-  room-keep,
-}
 use borrow.Author.Needs.{needs}
-use Rattle.branch_ops.proofs.put.put_edit.Statement.{statement}
-use Rattle.branch_ops.proofs.put.put_edit.Tie as tie
+use Rattle.branch_ops.proofs.writer.put_edit.Statement.{statement}
+use Rattle.branch_ops.proofs.writer.put_edit.Tie as tie
+use Rattle.branch_ops.proofs.PutLaws.{edit-inserted, edit-updated, edit-kept, room-insert}
 
-ruleset laws = (edit-inserted, edit-updated, edit-kept, room-insert, room-update, room-keep)
+ruleset laws = (edit-inserted, edit-updated, edit-kept, room-insert)
 
 enum-known-e : tie.Need-enum-known-e
 enum-known-e c = search (needs, laws)
@@ -23,14 +16,20 @@ put-insert-requires c κs = search (needs, laws)
 enum-known-e-2 : tie.Need-enum-known-e-2
 enum-known-e-2 c = search (needs, laws)
 
-put-fields-requires : tie.Need-put-fields-requires
-put-fields-requires c κs = search (needs, laws)
+update-number-requires : tie.Need-update-number-requires
+update-number-requires c κs = search (needs, laws)
+
+put-number-requires : tie.Need-put-number-requires
+put-number-requires c κs = search (needs, laws)
 
 enum-known-e-3 : tie.Need-enum-known-e-3
 enum-known-e-3 c = search (needs, laws)
 
-put-fields-requires-2 : tie.Need-put-fields-requires-2
-put-fields-requires-2 c κs = search (needs, laws)
+keep-number-requires : tie.Need-keep-number-requires
+keep-number-requires c κs = search (needs, laws)
+
+put-number-requires-2 : tie.Need-put-number-requires-2
+put-number-requires-2 c κs = search (needs, laws)
 
 same-length : tie.Need-same-length
 same-length c = search (needs, laws)
@@ -57,9 +56,11 @@ put-edit-spec =
     enum-known-e
     put-insert-requires
     enum-known-e-2
-    put-fields-requires
+    update-number-requires
+    put-number-requires
     enum-known-e-3
-    put-fields-requires-2
+    keep-number-requires
+    put-number-requires-2
     same-length
     returns
     same-length-2
