@@ -1,4 +1,9 @@
 //! The port beside the Rust and beside a naive implementation of document 01.
+//!
+//!     oracle [SEED [FACTOR]]    comparisons at random, and the differences that are known
+//!     oracle vectors FILE       a file of cases
+mod compare;
+mod generate;
 mod naive;
 mod port;
 mod told;
@@ -6,9 +11,14 @@ mod vectors;
 
 fn main() {
     let args: Vec<String> = std::env::args().skip(1).collect();
-    let good = match args.first().map(|s| s.as_str()) {
-        Some("vectors") => vectors::run(&args[1]),
-        _ => false,
+    let word = |i: usize| args.get(i).map(|s| s.as_str());
+    let good = match word(0) {
+        Some("vectors") => vectors::run(word(1).expect("vectors FILE")),
+        _ => {
+            std::panic::set_hook(Box::new(|_| {}));
+            let number = |i: usize, usual: u64| word(i).map_or(usual, |s| s.parse().expect("a number"));
+            compare::run(number(0, 1), number(1, 1) as usize)
+        }
     };
     if !good {
         std::process::exit(1);
