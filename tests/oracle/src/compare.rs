@@ -189,6 +189,8 @@ fn sizes(t: &mut Tally, r: &mut Random, turns: usize) {
         let whole = port::uncompressed_separator_range_size(a, b, c, d);
         t.refused(whole.refusal);
         t.same("whole lengths, naive", whole == told::size(naive::whole_from_stored(a, b, c, d)), w, input);
+        // whole lengths of a page's keys are at least the prefix's
+        let c = if small { c + b.saturating_sub(1) * d } else { c };
         let stored = port::compressed_separator_range_size(a, b, c, d);
         t.refused(stored.refusal);
         t.same("stored lengths, naive", stored == told::size(naive::stored_from_whole(a, b, c, d)), w, input);

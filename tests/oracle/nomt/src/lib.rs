@@ -121,11 +121,7 @@ mod io {
 #[cfg(text)]
 mod over {
     use crate::beatree::branch::node::{self, BranchNode, BranchNodeBuilder};
-    pub use crate::beatree::branch::node::{
-        body_size, compressed_separator_range_size, uncompressed_separator_range_size,
-    };
     use crate::beatree::ops::bit_ops;
-    pub use crate::beatree::ops::bit_ops::{bitwise_memcpy, prefix_len, separate, separator_len};
     use crate::beatree::ops::update::branch_ops::{BranchOp, BranchOpsTracker};
     use crate::beatree::ops::update::branch_updater::BaseBranch;
     use crate::beatree::PageNumber;
@@ -136,8 +132,46 @@ mod over {
     pub const BIT_OPS: &str = include_str!(concat!(env!("OUT_DIR"), "/bit_ops.rs"));
     pub const NODE: &str = include_str!(concat!(env!("OUT_DIR"), "/node.rs"));
 
+    // Each is kept whole here, where this crate's overflow checks are the ones that count.
+
+    #[inline(never)]
+    pub fn separate(a: &Key, b: &Key) -> Key {
+        bit_ops::separate(a, b)
+    }
+
+    #[inline(never)]
+    pub fn prefix_len(a: &Key, b: &Key) -> usize {
+        bit_ops::prefix_len(a, b)
+    }
+
+    #[inline(never)]
+    pub fn separator_len(key: &Key) -> usize {
+        bit_ops::separator_len(key)
+    }
+
+    #[inline(never)]
+    pub fn bitwise_memcpy(dst: &mut [u8], dst_bit: usize, src: &[u8], src_bit: usize, len: usize) {
+        bit_ops::bitwise_memcpy(dst, dst_bit, src, src_bit, len)
+    }
+
+    #[inline(never)]
     pub fn reconstruct_key(prefix: Option<(&[u8], usize)>, separator: (&[u8], usize, usize)) -> Key {
         bit_ops::reconstruct_key(prefix, separator)
+    }
+
+    #[inline(never)]
+    pub fn body_size(q: usize, sum: usize, n: usize) -> usize {
+        node::body_size(q, sum, n)
+    }
+
+    #[inline(never)]
+    pub fn uncompressed_separator_range_size(q: usize, sum: usize, n: usize, first: usize) -> usize {
+        node::uncompressed_separator_range_size(q, sum, n, first)
+    }
+
+    #[inline(never)]
+    pub fn compressed_separator_range_size(first: usize, m: usize, others: usize, q: usize) -> usize {
+        node::compressed_separator_range_size(first, m, others, q)
     }
 
     /// A page.
@@ -159,10 +193,12 @@ mod over {
             self.0.as_mut_slice()
         }
 
+        #[inline(never)]
         pub fn key(&self, i: usize) -> Key {
             node::get_key(&self.0, i)
         }
 
+        #[inline(never)]
         pub fn pointer(&self, i: usize) -> u32 {
             self.0.node_pointer(i)
         }
@@ -172,16 +208,19 @@ mod over {
     pub struct Builder(BranchNodeBuilder);
 
     impl Builder {
+        #[inline(never)]
         pub fn new(page: Node, number: u32, n: usize, m: usize, q: usize) -> Builder {
             let mut node = page.0;
             node.set_bbn_pn(number);
             Builder(BranchNodeBuilder::new(node, n, m, q))
         }
 
+        #[inline(never)]
         pub fn push(&mut self, key: Key, separator_len: usize, pointer: u32) {
             self.0.push(key, separator_len, pointer);
         }
 
+        #[inline(never)]
         pub fn push_chunk(&mut self, base: &Node, from: usize, to: usize, updated: &[(usize, u32)]) {
             let updated = updated.iter().map(|&(i, p)| (i, PageNumber(p)));
             self.0.push_chunk(&base.0, from, to, updated);
@@ -193,6 +232,7 @@ mod over {
     }
 
     /// What the tracker makes of one chunk: the keys of its inserts, and the chunks, by start and end.
+    #[inline(never)]
     pub fn tracked(base: &[u8], start: usize, end: usize) -> (Vec<Key>, Vec<(usize, usize)>) {
         let base = BaseBranch { node: Node::of(base).0 };
         let mut tracker = BranchOpsTracker::new();
