@@ -3,6 +3,8 @@
 //!     oracle [SEED [FACTOR]]    comparisons at random, and the differences that are known
 //!     oracle differences        the known differences alone
 //!     oracle vectors FILE       a file of cases
+//!     oracle bench              times, the port beside the Rust
+mod bench;
 mod compare;
 mod differences;
 mod generate;
@@ -17,6 +19,7 @@ fn main() {
     let word = |i: usize| args.get(i).map(|s| s.as_str());
     let good = match word(0) {
         Some("vectors") => vectors::run(word(1).expect("vectors FILE")),
+        Some("bench") => bench::run(),
         Some("differences") => differences::run(),
         _ => {
             let number = |i: usize, usual: u64| word(i).map_or(usual, |s| s.parse().expect("a number"));
