@@ -190,10 +190,10 @@ fn sizes(t: &mut Tally, r: &mut Random, turns: usize) {
         t.refused(whole.refusal);
         t.same("whole lengths, naive", whole == told::size(naive::whole_from_stored(a, b, c, d)), w, input);
         // whole lengths of a page's keys are at least the prefix's
-        let c = if small { c + b.saturating_sub(1) * d } else { c };
-        let stored = port::compressed_separator_range_size(a, b, c, d);
+        let others = if small { c + b.saturating_sub(1) * d } else { c };
+        let stored = port::compressed_separator_range_size(a, b, others, d);
         t.refused(stored.refusal);
-        t.same("stored lengths, naive", stored == told::size(naive::stored_from_whole(a, b, c, d)), w, input);
+        t.same("stored lengths, naive", stored == told::size(naive::stored_from_whole(a, b, others, d)), w, || format!("{a} {b} {others} {d}"));
         if nomt::PRESENT && small {
             let [a, b, c, d] = [a, b, c, d].map(|v| v as usize);
             t.same("body bytes in a page's range, Rust", body.value == nomt::body_size(a, b, c) as u64, w, input);
@@ -202,7 +202,7 @@ fn sizes(t: &mut Tally, r: &mut Random, turns: usize) {
                 t.same("whole lengths in a page's range, Rust", whole.value == theirs, w, input);
             }
             if stored.refusal == 0 {
-                let theirs = nomt::compressed_separator_range_size(a, b, c, d) as u64;
+                let theirs = nomt::compressed_separator_range_size(a, b, others as usize, d) as u64;
                 t.same("stored lengths in a page's range, Rust", stored.value == theirs, w, input);
             }
         }

@@ -52,45 +52,58 @@ impl Bits {
         (self.first().wrapping_add(at / 8), at % 8, to - from)
     }
 
-    // up to 64 bits from `from` on, at the number's low end
+    // from 1 to 64 bits from `from` on, at the number's low end
     fn load(&self, from: usize, count: usize) -> u64 {
         let at = self.at() + from;
-        let mut x: u128 = 0;
+        let first = self.first().wrapping_add(at / 8);
         let bytes = (at % 8 + count + 7) / 8;
-        for i in 0..bytes {
-            x = x << 8 | unsafe { *self.first().add(at / 8 + i) } as u128;
+        let mut x: u64 = 0;
+        if bytes >= 8 {
+            x = u64::from_be_bytes(unsafe { *(first as *const [u8; 8]) });
+        } else {
+            for i in 0..bytes {
+                x |= (unsafe { *first.add(i) } as u64) << (56 - 8 * i);
+            }
         }
-        let above = 8 * bytes - at % 8 - count;
-        let mask = u64::MAX >> (64 - count);
-        (x >> above) as u64 & mask
+        x <<= at % 8;
+        if bytes > 8 {
+            x |= unsafe { *first.add(8) } as u64 >> (8 - at % 8);
+        }
+        x >> (64 - count)
     }
 
+    // from 1 to 64 bits to `to`, inside eight bytes
     fn store(&mut self, to: usize, count: usize, value: u64) {
         let at = self.at() + to;
-        let first = self.first() as *mut u8;
-        let bytes = (at % 8 + count + 7) / 8;
-        let above = 8 * bytes - at % 8 - count;
-        let mask = ((u64::MAX >> (64 - count)) as u128) << above;
-        let value = (value as u128) << above;
-        for i in 0..bytes {
-            let shift = 8 * (bytes - 1 - i);
-            let (m, v) = ((mask >> shift) as u8, (value >> shift) as u8);
+        let first = (self.first() as *mut u8).wrapping_add(at / 8);
+        let above = 64 - at % 8 - count;
+        let mask = u64::MAX >> (64 - count) << above;
+        let value = value << above;
+        for i in 0..(at % 8 + count + 7) / 8 {
+            let (m, v) = ((mask >> (56 - 8 * i)) as u8, (value >> (56 - 8 * i)) as u8);
             unsafe {
-                let p = first.add(at / 8 + i);
-                *p = *p & !m | v & m;
+                let p = first.add(i);
+                *p = *p & !m | v;
             }
         }
     }
 
-    /// Copies a run of the same length.
+    /// Copies a run of the same length: up to a byte's start, 64 bits at a time, and the rest.
     pub fn copy_from_bitslice(&mut self, src: &Self) {
         assert_eq!(self.len(), src.len(), "runs of one length");
-        let mut done = 0;
-        while done < src.len() {
-            let count = (src.len() - done).min(64);
-            let value = src.load(done, count);
-            self.store(done, count, value);
-            done += count;
+        let len = src.len();
+        let mut done = len.min((8 - self.at()) % 8);
+        if done > 0 {
+            self.store(0, done, src.load(0, done));
+        }
+        while len - done >= 64 {
+            let value = src.load(done, 64);
+            let at = (self.at() + done) / 8;
+            unsafe { *((self.first() as *mut u8).add(at) as *mut [u8; 8]) = value.to_be_bytes() };
+            done += 64;
+        }
+        if len > done {
+            self.store(done, len - done, src.load(done, len - done));
         }
     }
 }
