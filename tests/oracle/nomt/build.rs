@@ -16,7 +16,10 @@ fn main() {
     for (text, name) in [
         ("src--nomt--src--beatree--ops--bit_ops.rs.txt", "bit_ops.rs"),
         ("src--nomt--src--beatree--branch--node.rs.txt", "node.rs"),
-        ("src--nomt--src--beatree--ops--update--branch_ops.rs.txt", "branch_ops.rs"),
+        (
+            "src--nomt--src--beatree--ops--update--branch_ops.rs.txt",
+            "branch_ops.rs",
+        ),
     ] {
         let from = folder.join(text);
         println!("cargo:rerun-if-changed={}", from.display());

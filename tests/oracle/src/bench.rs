@@ -33,7 +33,11 @@ fn row(name: &str, mine: Option<f64>, theirs: Option<f64>) {
         (Some(a), Some(b)) => format!("{:.2}", a / b),
         _ => "-".to_string(),
     };
-    println!("{name:58} {:>9} {:>9} {ratio:>7}", shown(mine), shown(theirs));
+    println!(
+        "{name:58} {:>9} {:>9} {ratio:>7}",
+        shown(mine),
+        shown(theirs)
+    );
 }
 
 // n ascending keys: of up to 200, 56 or 18 bits for 100, 300 and 500 of them, behind `under` bits that
@@ -77,7 +81,13 @@ fn build(name: &str, old: &[Entry], edits: &[Edit]) -> Option<f64> {
     let (mut page, mut undo) = (vec![0; PAGE], vec![0; 24_688]);
     let mine = port::BUILDS.then(|| {
         let t = least(|| {
-            black_box(port::build(black_box(&base), black_box(&record), 7, &mut page, &mut undo));
+            black_box(port::build(
+                black_box(&base),
+                black_box(&record),
+                7,
+                &mut page,
+                &mut undo,
+            ));
         });
         assert!(page == wanted, "the port's page");
         t
@@ -90,7 +100,11 @@ fn build(name: &str, old: &[Entry], edits: &[Edit]) -> Option<f64> {
         assert!(node.unwrap().bytes() == wanted, "the Rust's page");
         t
     });
-    row(&format!("{name}, {} entries: build / pushes", new.len()), mine, theirs);
+    row(
+        &format!("{name}, {} entries: build / pushes", new.len()),
+        mine,
+        theirs,
+    );
 
     let old_q = base[8] as usize + 256 * base[9] as usize;
     let old_m = base[6] as usize + 256 * base[7] as usize;
@@ -111,8 +125,15 @@ fn build(name: &str, old: &[Entry], edits: &[Edit]) -> Option<f64> {
             }
             node = Some(b.finish());
         });
-        assert!(node.unwrap().bytes() == wanted, "the Rust's page by a chunk");
-        row(&format!("{name}, {} entries: build / one push_chunk", new.len()), mine, Some(t));
+        assert!(
+            node.unwrap().bytes() == wanted,
+            "the Rust's page by a chunk"
+        );
+        row(
+            &format!("{name}, {} entries: build / one push_chunk", new.len()),
+            mine,
+            Some(t),
+        );
     }
     mine
 }
@@ -125,7 +146,9 @@ pub fn run() -> bool {
     println!("Port beside Rust, nanoseconds a call, one core, one run: each figure is the least of {BATCHES} batches of");
     println!("about 100 us. Everything is in cache; buffers are made before and not cleared between calls. Both are called");
     println!("through functions that are not inlined, the port over C linkage. Keys and bits come from a fixed seed. bitvec,");
-    println!("inside the Rust's pushes, is a stand-in that copies by 64-bit groups. '-': there is none.");
+    println!(
+        "inside the Rust's pushes, is a stand-in that copies by 64-bit groups. '-': there is none."
+    );
     if !nomt::PRESENT {
         println!("The Rust's texts are not there: its column stays empty.");
     }
@@ -144,9 +167,14 @@ pub fn run() -> bool {
                 black_box(port::bit_copy(&mut d, to, black_box(&s), from, bits));
             });
             let source = &s[..(from + bits + 63) / 64 * 8];
-            let theirs = nomt::PRESENT
-                .then(|| least(|| nomt::bitwise_memcpy(black_box(&mut d), to, black_box(source), from, bits)));
-            row(&format!("bit copy, {bits} bits, {name}"), Some(mine), theirs);
+            let theirs = nomt::PRESENT.then(|| {
+                least(|| nomt::bitwise_memcpy(black_box(&mut d), to, black_box(source), from, bits))
+            });
+            row(
+                &format!("bit copy, {bits} bits, {name}"),
+                Some(mine),
+                theirs,
+            );
         }
     }
 
@@ -162,27 +190,53 @@ pub fn run() -> bool {
     let mine = least(|| {
         black_box(port::separator_len(black_box(&short)));
     });
-    row("separator length of a key of 72 bits", Some(mine), rust(&mut || {
-        black_box(nomt::separator_len(black_box(&short)));
-    }));
+    row(
+        "separator length of a key of 72 bits",
+        Some(mine),
+        rust(&mut || {
+            black_box(nomt::separator_len(black_box(&short)));
+        }),
+    );
     let mine = least(|| {
         black_box(port::prefix_len(black_box(&low), black_box(&high)));
     });
-    row("shared bits, 100 of them", Some(mine), rust(&mut || {
-        black_box(nomt::prefix_len(black_box(&low), black_box(&high)));
-    }));
+    row(
+        "shared bits, 100 of them",
+        Some(mine),
+        rust(&mut || {
+            black_box(nomt::prefix_len(black_box(&low), black_box(&high)));
+        }),
+    );
     let mine = least(|| {
         black_box(port::separate(black_box(&low), black_box(&high), &mut out));
     });
-    row("separate, 100 shared bits", Some(mine), rust(&mut || {
-        black_box(nomt::separate(black_box(&low), black_box(&high)));
-    }));
+    row(
+        "separate, 100 shared bits",
+        Some(mine),
+        rust(&mut || {
+            black_box(nomt::separate(black_box(&low), black_box(&high)));
+        }),
+    );
     let mine = least(|| {
-        black_box(port::reconstruct_key(black_box(&s[..9]), 68, black_box(&s[100..116]), 3, 90, &mut out));
+        black_box(port::reconstruct_key(
+            black_box(&s[..9]),
+            68,
+            black_box(&s[100..116]),
+            3,
+            90,
+            &mut out,
+        ));
     });
-    row("key rebuilding, 68 bits of prefix and 90 of separator", Some(mine), rust(&mut || {
-        black_box(nomt::reconstruct_key(Some((black_box(&s[..9]), 68)), (black_box(&s[100..116]), 3, 90)));
-    }));
+    row(
+        "key rebuilding, 68 bits of prefix and 90 of separator",
+        Some(mine),
+        rust(&mut || {
+            black_box(nomt::reconstruct_key(
+                Some((black_box(&s[..9]), 68)),
+                (black_box(&s[100..116]), 3, 90),
+            ));
+        }),
+    );
 
     // pages
     println!();
@@ -192,7 +246,12 @@ pub fn run() -> bool {
         let (k, other) = (keys(r, n, 0), keys(r, n, 0));
         let other: Vec<Key> = other.into_iter().filter(|x| !k.contains(x)).collect();
         let prefixed = keys(r, n, 16);
-        sets.push((n, gen::entries(r, &k), gen::entries(r, &other), gen::entries(r, &prefixed)));
+        sets.push((
+            n,
+            gen::entries(r, &k),
+            gen::entries(r, &other),
+            gen::entries(r, &prefixed),
+        ));
     }
     for (n, all, ..) in &sets {
         let page = naive::normal_page(7, all);
@@ -205,7 +264,11 @@ pub fn run() -> bool {
                 black_box(black_box(node).key(n / 2));
             })
         });
-        row(&format!("one key read, page of {n} entries: entry / get_key"), Some(mine), theirs);
+        row(
+            &format!("one key read, page of {n} entries: entry / get_key"),
+            Some(mine),
+            theirs,
+        );
     }
     for (n, all, ..) in &sets {
         let page = naive::normal_page(7, all);
@@ -269,7 +332,11 @@ pub fn run() -> bool {
     }
     if let Some((t, name)) = slowest {
         let pages = 1e9 / t;
-        let word = if pages >= 30_000.0 { "reached" } else { "NOT reached" };
+        let word = if pages >= 30_000.0 {
+            "reached"
+        } else {
+            "NOT reached"
+        };
         println!();
         println!("pages a second on one core: {pages:.0} in the slowest of these ({name}); the aim of 30000 is {word}");
     }

@@ -15,12 +15,21 @@ pub struct Tally {
 }
 
 impl Tally {
-    pub fn same(&mut self, kind: &'static str, good: bool, weight: usize, input: impl FnOnce() -> String) {
+    pub fn same(
+        &mut self,
+        kind: &'static str,
+        good: bool,
+        weight: usize,
+        input: impl FnOnce() -> String,
+    ) {
         *self.counts.entry(kind).or_default() += 1;
         if good {
             return;
         }
-        let d = self.differ.entry(kind).or_insert((usize::MAX, 0, String::new()));
+        let d = self
+            .differ
+            .entry(kind)
+            .or_insert((usize::MAX, 0, String::new()));
         d.1 += 1;
         if weight < d.0 {
             d.0 = weight;
@@ -39,8 +48,9 @@ impl Tally {
         }
         let all: u64 = self.counts.values().sum();
         println!("{all:9}  comparisons in all");
-        let seen: Vec<String> =
-            (1..20).map(|i| format!("{i}: {}", self.refusals[i])).collect();
+        let seen: Vec<String> = (1..20)
+            .map(|i| format!("{i}: {}", self.refusals[i]))
+            .collect();
         println!("refusals seen: {}", seen.join(", "));
         println!("answers with no refusal: {}", self.refusals[0]);
         for (kind, (_, n, input)) in &self.differ {
@@ -52,7 +62,10 @@ impl Tally {
 
 // how much an input holds: its bytes that are not zero, and a little for its length
 fn weight(parts: &[&[u8]]) -> usize {
-    parts.iter().map(|p| 64 * p.iter().filter(|b| **b != 0).count() + p.len()).sum()
+    parts
+        .iter()
+        .map(|p| 64 * p.iter().filter(|b| **b != 0).count() + p.len())
+        .sum()
 }
 
 // the Rust's answer; none where it stops the run
@@ -63,24 +76,58 @@ fn quiet<T>(f: impl FnOnce() -> T) -> Option<T> {
 fn keys(t: &mut Tally, r: &mut Random, turns: usize) {
     for _ in 0..turns {
         let a = gen::key(r);
-        let b = if r.once_in(3) { gen::key(r) } else { gen::key_near(r, &a) };
+        let b = if r.once_in(3) {
+            gen::key(r)
+        } else {
+            gen::key_near(r, &a)
+        };
         let w = weight(&[&a, &b]);
         let both = || format!("{} {}", hex(&a), hex(&b));
 
         let len = port::separator_len(&a);
-        t.same("separator length, naive", len == naive::separator_len(&a) as u64, w, both);
+        t.same(
+            "separator length, naive",
+            len == naive::separator_len(&a) as u64,
+            w,
+            both,
+        );
         let shared = port::prefix_len(&a, &b);
-        t.same("shared bits, naive", shared == naive::shared(&a, &b) as u64, w, both);
+        t.same(
+            "shared bits, naive",
+            shared == naive::shared(&a, &b) as u64,
+            w,
+            both,
+        );
         let was: Key = [r.next() as u8; 32];
         let mut out = was;
         let no = port::separate(&a, &b, &mut out);
         t.refused(no);
-        t.same("separate, naive", (no, out) == told::written(naive::separate(&a, &b), &was), w, both);
+        t.same(
+            "separate, naive",
+            (no, out) == told::written(naive::separate(&a, &b), &was),
+            w,
+            both,
+        );
         if nomt::PRESENT {
-            t.same("separator length, Rust", len == nomt::separator_len(&a) as u64, w, both);
-            t.same("shared bits, Rust", shared == nomt::prefix_len(&a, &b) as u64, w, both);
+            t.same(
+                "separator length, Rust",
+                len == nomt::separator_len(&a) as u64,
+                w,
+                both,
+            );
+            t.same(
+                "shared bits, Rust",
+                shared == nomt::prefix_len(&a, &b) as u64,
+                w,
+                both,
+            );
             if a < b {
-                t.same("separate with a < b, Rust", (no, out) == (0, nomt::separate(&a, &b)), w, both);
+                t.same(
+                    "separate with a < b, Rust",
+                    (no, out) == (0, nomt::separate(&a, &b)),
+                    w,
+                    both,
+                );
             }
         }
     }
@@ -100,7 +147,9 @@ fn copies(t: &mut Tally, r: &mut Random, turns: usize) {
             _ => r.below(8 * l + 1),
         };
         let (to, from) = (bits(r, dl), bits(r, sl));
-        let least = (8 * dl).saturating_sub(to).min((8 * sl).saturating_sub(from));
+        let least = (8 * dl)
+            .saturating_sub(to)
+            .min((8 * sl).saturating_sub(from));
         let len = match r.below(12) {
             0 => 0,
             1 => least,
@@ -109,13 +158,21 @@ fn copies(t: &mut Tally, r: &mut Random, turns: usize) {
             _ => r.below(least + 1),
         };
         let w = weight(&[&dst, &src]);
-        let input = || format!("dst {} from bit {to}, src {} from bit {from}, {len} bits", hex(&dst), hex(&src));
+        let input = || {
+            format!(
+                "dst {} from bit {to}, src {} from bit {from}, {len} bits",
+                hex(&dst),
+                hex(&src)
+            )
+        };
 
         let mut mine = dst.clone();
         let no = port::bit_copy(&mut mine, to, &src, from, len);
         t.refused(no);
         let mut plain = dst.clone();
-        let said = naive::bit_copy(&mut plain, to as u64, &src, from as u64, len as u64).err().unwrap_or(0);
+        let said = naive::bit_copy(&mut plain, to as u64, &src, from as u64, len as u64)
+            .err()
+            .unwrap_or(0);
         t.same("bit copy, naive", no == said && mine == plain, w, input);
 
         // for the Rust: starts cut to 0 to 7, the source as long as it wants it
@@ -123,8 +180,15 @@ fn copies(t: &mut Tally, r: &mut Random, turns: usize) {
             let mut source = src[from / 8..].to_vec();
             source.resize((from % 8 + len + 63) / 64 * 8, r.next() as u8);
             let mut theirs = dst.clone();
-            let done = quiet(|| nomt::bitwise_memcpy(&mut theirs[to / 8..], to % 8, &source, from % 8, len));
-            t.same("bit copy in the Rust's domain, Rust", done.is_some() && theirs == mine, w, input);
+            let done = quiet(|| {
+                nomt::bitwise_memcpy(&mut theirs[to / 8..], to % 8, &source, from % 8, len)
+            });
+            t.same(
+                "bit copy in the Rust's domain, Rust",
+                done.is_some() && theirs == mine,
+                w,
+                input,
+            );
         }
     }
 }
@@ -156,19 +220,46 @@ fn rebuilt(t: &mut Tally, r: &mut Random, turns: usize) {
             _ => r.below(left + 1),
         };
         let w = weight(&[&prefix, &sep]);
-        let input = || format!("prefix {} {p} bits, separator {} from bit {start}, {s} bits", hex(&prefix), hex(&sep));
+        let input = || {
+            format!(
+                "prefix {} {p} bits, separator {} from bit {start}, {s} bits",
+                hex(&prefix),
+                hex(&sep)
+            )
+        };
         let was: Key = [r.next() as u8; 32];
         let mut out = was;
         let no = port::reconstruct_key(&prefix, p, &sep, start, s, &mut out);
         t.refused(no);
         let said = naive::rebuild(&prefix, p as u64, &sep, start as u64, s as u64);
-        t.same("key rebuilding, naive", (no, out) == told::written(said, &was), w, input);
+        t.same(
+            "key rebuilding, naive",
+            (no, out) == told::written(said, &was),
+            w,
+            input,
+        );
         if nomt::PRESENT && no == 0 {
-            let mut source = if s == 0 { vec![] } else { sep[start / 8..].to_vec() };
-            source.resize(if s == 0 { 0 } else { (start % 8 + s + 63) / 64 * 8 }, r.next() as u8);
+            let mut source = if s == 0 {
+                vec![]
+            } else {
+                sep[start / 8..].to_vec()
+            };
+            source.resize(
+                if s == 0 {
+                    0
+                } else {
+                    (start % 8 + s + 63) / 64 * 8
+                },
+                r.next() as u8,
+            );
             let first = (p != 0).then(|| (&prefix[..(p + 7) / 8], p));
             let theirs = quiet(|| nomt::reconstruct_key(first, (&source, start % 8, s)));
-            t.same("key rebuilding up to 256 bits, Rust", theirs == Some(out), w, input);
+            t.same(
+                "key rebuilding up to 256 bits, Rust",
+                theirs == Some(out),
+                w,
+                input,
+            );
         }
     }
 }
@@ -178,32 +269,72 @@ fn sizes(t: &mut Tally, r: &mut Random, turns: usize) {
         // a page's numbers, or any
         let small = turn % 2 == 0;
         let x: Vec<u64> = (0..4)
-            .map(|_| if small { r.below(700) as u64 } else { r.number() })
+            .map(|_| {
+                if small {
+                    r.below(700) as u64
+                } else {
+                    r.number()
+                }
+            })
             .collect();
         let (a, b, c, d) = (x[0], x[1], x[2], x[3]);
         let w = x.iter().map(|v| 64 - v.leading_zeros() as usize).sum();
         let input = || format!("{a} {b} {c} {d}");
         let body = port::body_size(a, b, c);
         t.refused(body.refusal);
-        t.same("body bytes, naive", body == told::size(naive::body_size(a, b, c)), w, input);
+        t.same(
+            "body bytes, naive",
+            body == told::size(naive::body_size(a, b, c)),
+            w,
+            input,
+        );
         let whole = port::uncompressed_separator_range_size(a, b, c, d);
         t.refused(whole.refusal);
-        t.same("whole lengths, naive", whole == told::size(naive::whole_from_stored(a, b, c, d)), w, input);
+        t.same(
+            "whole lengths, naive",
+            whole == told::size(naive::whole_from_stored(a, b, c, d)),
+            w,
+            input,
+        );
         // whole lengths of a page's keys are at least the prefix's
-        let others = if small { c + b.saturating_sub(1) * d } else { c };
+        let others = if small {
+            c + b.saturating_sub(1) * d
+        } else {
+            c
+        };
         let stored = port::compressed_separator_range_size(a, b, others, d);
         t.refused(stored.refusal);
-        t.same("stored lengths, naive", stored == told::size(naive::stored_from_whole(a, b, others, d)), w, || format!("{a} {b} {others} {d}"));
+        t.same(
+            "stored lengths, naive",
+            stored == told::size(naive::stored_from_whole(a, b, others, d)),
+            w,
+            || format!("{a} {b} {others} {d}"),
+        );
         if nomt::PRESENT && small {
             let [a, b, c, d] = [a, b, c, d].map(|v| v as usize);
-            t.same("body bytes in a page's range, Rust", body.value == nomt::body_size(a, b, c) as u64, w, input);
+            t.same(
+                "body bytes in a page's range, Rust",
+                body.value == nomt::body_size(a, b, c) as u64,
+                w,
+                input,
+            );
             if whole.refusal == 0 {
                 let theirs = nomt::uncompressed_separator_range_size(a, b, c, d) as u64;
-                t.same("whole lengths in a page's range, Rust", whole.value == theirs, w, input);
+                t.same(
+                    "whole lengths in a page's range, Rust",
+                    whole.value == theirs,
+                    w,
+                    input,
+                );
             }
             if stored.refusal == 0 {
                 let theirs = nomt::compressed_separator_range_size(a, b, others as usize, d) as u64;
-                t.same("stored lengths in a page's range, Rust", stored.value == theirs, w, input);
+                t.same(
+                    "stored lengths in a page's range, Rust",
+                    stored.value == theirs,
+                    w,
+                    input,
+                );
             }
         }
     }
@@ -215,16 +346,29 @@ fn page(t: &mut Tally, r: &mut Random, page: &[u8]) {
     let input = || hex(page);
     let h = port::check(page);
     t.refused(h.refusal);
-    t.same("check, naive", h == told::checked(naive::check(page)), w, input);
+    t.same(
+        "check, naive",
+        h == told::checked(naive::check(page)),
+        w,
+        input,
+    );
     let n = h.n as usize;
-    let indexes = [0, n.saturating_sub(1), n, r.below(n + 2), r.number() as usize];
+    let indexes = [
+        0,
+        n.saturating_sub(1),
+        n,
+        r.below(n + 2),
+        r.number() as usize,
+    ];
     for i in indexes {
         let was: Key = [r.next() as u8; 32];
         let mut key = was;
         let e = port::entry(page, i, &mut key);
         t.refused(e.refusal);
         let said = told::entry(naive::entry(page, i as u64), &was);
-        t.same("entry, naive", (e, key) == said, w, || format!("entry {i} of {}", hex(page)));
+        t.same("entry, naive", (e, key) == said, w, || {
+            format!("entry {i} of {}", hex(page))
+        });
     }
     if h.refusal == 0 {
         let all = naive::entries_of(page);
@@ -233,12 +377,28 @@ fn page(t: &mut Tally, r: &mut Random, page: &[u8]) {
         for i in (0..n).step_by(step) {
             let mut key = [0; 32];
             let e = port::entry(page, i, &mut key);
-            let mine = Entry { key, pointer: e.pointer as u32 };
+            let mine = Entry {
+                key,
+                pointer: e.pointer as u32,
+            };
             let at = || format!("entry {i} of {}", hex(page));
-            t.same("entry of an accepted page, naive", e.refusal == 0 && mine == all[i], w, at);
+            t.same(
+                "entry of an accepted page, naive",
+                e.refusal == 0 && mine == all[i],
+                w,
+                at,
+            );
             if let Some(node) = &node {
-                let theirs = quiet(|| Entry { key: node.key(i), pointer: node.pointer(i) });
-                t.same("entry of an accepted page, Rust", theirs == Some(mine), w, at);
+                let theirs = quiet(|| Entry {
+                    key: node.key(i),
+                    pointer: node.pointer(i),
+                });
+                t.same(
+                    "entry of an accepted page, Rust",
+                    theirs == Some(mine),
+                    w,
+                    at,
+                );
             }
         }
     }
@@ -309,7 +469,14 @@ fn pushed(all: &[Entry], number: u32, m: usize, q: usize) -> Option<Vec<u8>> {
 }
 
 // the same, the kept runs of a base with an equal prefix length by push_chunk
-fn chunked(base: &[u8], old: &[Entry], all: &[Entry], number: u32, m: usize, q: usize) -> Option<Vec<u8>> {
+fn chunked(
+    base: &[u8],
+    old: &[Entry],
+    all: &[Entry],
+    number: u32,
+    m: usize,
+    q: usize,
+) -> Option<Vec<u8>> {
     let base_m = base[6] as usize + 256 * base[7] as usize;
     quiet(|| {
         let node = nomt::Node::of(base);
@@ -360,7 +527,9 @@ fn builds(t: &mut Tally, r: &mut Random, turns: usize) {
 
         let (answer, made, left) = built(t, &base, &record, number, &page, &undo);
         if answer.refusal == 0 {
-            accepted(t, r, &base, &old, &new, &record, number, answer, &made, &left);
+            accepted(
+                t, r, &base, &old, &new, &record, number, answer, &made, &left,
+            );
         }
 
         // refused ones
@@ -409,11 +578,21 @@ fn accepted(
     let (m, q) = (answer.m as usize, answer.q as usize);
     if nomt::PRESENT {
         let theirs = pushed(new, number, m, q);
-        t.same("page by pushes, every bit, Rust", theirs.as_deref() == Some(made), w, input);
+        t.same(
+            "page by pushes, every bit, Rust",
+            theirs.as_deref() == Some(made),
+            w,
+            input,
+        );
         let normal = !base.is_empty() && naive::normal_page(le32(base), old) == base;
         if normal && base[8..10] == made[8..10] {
             let theirs = chunked(base, old, new, number, m, q);
-            t.same("page by pushes and chunks of equal prefix, Rust", theirs.as_deref() == Some(made), w, input);
+            t.same(
+                "page by pushes and chunks of equal prefix, Rust",
+                theirs.as_deref() == Some(made),
+                w,
+                input,
+            );
         }
     }
     if new.len() <= 6 {
@@ -425,10 +604,20 @@ fn accepted(
             .flat_map(|m| (0..=shares[m - 1]).map(move |q| (m, q)))
             .map(|(m, q)| naive::choice_bits(&lens, m, q))
             .min();
-        t.same("fewest bits of all permitted choices", least == Some(answer.bits as usize), w, input);
+        t.same(
+            "fewest bits of all permitted choices",
+            least == Some(answer.bits as usize),
+            w,
+            input,
+        );
     }
     if base.is_empty() {
-        t.same("undo with no base", left[..answer.undo as usize] == [0, 0], w, input);
+        t.same(
+            "undo with no base",
+            left[..answer.undo as usize] == [0, 0],
+            w,
+            input,
+        );
         return;
     }
     // back with the undo record under the base's number, and forth again
@@ -437,11 +626,23 @@ fn accepted(
     let (page, room) = (r.bytes(PAGE), r.bytes(24_688));
     let (back, page2, left2) = built(t, made, undo, was, &page, &room);
     let good = back.refusal == 0 && page2 == naive::normal_page(was, old);
-    t.same("demand 3: back is the normal page of the base's entries", good, w, input);
+    t.same(
+        "demand 3: back is the normal page of the base's entries",
+        good,
+        w,
+        input,
+    );
     if back.refusal != 0 {
         return;
     }
-    let (forth, page3, left3) = built(t, &page2, &left2[..back.undo as usize], number, &page, &room);
+    let (forth, page3, left3) = built(
+        t,
+        &page2,
+        &left2[..back.undo as usize],
+        number,
+        &page,
+        &room,
+    );
     let good = forth.refusal == 0 && page3 == made && left3[..forth.undo as usize] == *undo;
     t.same("demand 3: forth again is the new page", good, w, input);
 }

@@ -36,12 +36,21 @@ struct List {
 impl List {
     fn say(&mut self, name: &str, text: &str, good: bool) {
         self.good &= good;
-        println!("{name:5} {} {text}", if good { "as said:" } else { "NOT AS SAID:" });
+        println!(
+            "{name:5} {} {text}",
+            if good { "as said:" } else { "NOT AS SAID:" }
+        );
     }
 }
 
 // the port's build, or the naive one where the library has none
-fn build(base: &[u8], edits: &[Edit], number: u32, page: &mut [u8], undo: &mut [u8]) -> port::Built {
+fn build(
+    base: &[u8],
+    edits: &[Edit],
+    number: u32,
+    page: &mut [u8],
+    undo: &mut [u8],
+) -> port::Built {
     let record = naive::write_record(edits);
     if port::BUILDS {
         port::build(base, &record, number, page, undo)
@@ -78,13 +87,23 @@ macro_rules! carried {
 
 fn ends(page: &[u8]) -> Vec<usize> {
     let n = page[4] as usize + 256 * page[5] as usize;
-    (0..n).map(|i| page[10 + 2 * i] as usize + 256 * page[11 + 2 * i] as usize).collect()
+    (0..n)
+        .map(|i| page[10 + 2 * i] as usize + 256 * page[11 + 2 * i] as usize)
+        .collect()
 }
 
 fn d1(l: &mut List) {
-    let masks = ["fn first_chunk_mask(", "fn last_chunk_mask("].iter().all(|f| nomt::BIT_OPS.contains(f));
-    let number = ["BRANCH_NODE_SIZE: usize = 4", "BRANCH_NODE_SIZE: usize ="].iter().any(|s| nomt::NODE.contains(s));
-    l.say("D1", "both chunk masks stand in bit_ops.rs; BRANCH_NODE_SIZE is nowhere given", masks && !number);
+    let masks = ["fn first_chunk_mask(", "fn last_chunk_mask("]
+        .iter()
+        .all(|f| nomt::BIT_OPS.contains(f));
+    let number = ["BRANCH_NODE_SIZE: usize = 4", "BRANCH_NODE_SIZE: usize ="]
+        .iter()
+        .any(|s| nomt::NODE.contains(s));
+    l.say(
+        "D1",
+        "both chunk masks stand in bit_ops.rs; BRANCH_NODE_SIZE is nowhere given",
+        masks && !number,
+    );
 }
 
 fn d2(l: &mut List) {
@@ -92,10 +111,20 @@ fn d2(l: &mut List) {
     b.push(key(&[0x80]), 1, 0);
     let theirs = b.finish().bytes()[12..21].to_vec();
     let mut page = [0xff; PAGE];
-    let a = build(&[], &[Edit::Insert(key(&[0x80]), 7)], 0, &mut page, &mut [0; 2]);
+    let a = build(
+        &[],
+        &[Edit::Insert(key(&[0x80]), 7)],
+        0,
+        &mut page,
+        &mut [0; 2],
+    );
     let cleared = page[12] == 0x80 && page[13..PAGE - 4].iter().all(|b| *b == 0);
     let text = format!("on a page of ff, key 80, m 1, q 1: the Rust's bytes 12 to 20 are {}; the port's are 0 up to the pointers", hex(&theirs));
-    l.say("D2", &text, theirs == [0x80, 0, 0, 0, 0, 0, 0, 0, 0xff] && a.refusal == 0 && cleared);
+    l.say(
+        "D2",
+        &text,
+        theirs == [0x80, 0, 0, 0, 0, 0, 0, 0, 0xff] && a.refusal == 0 && cleared,
+    );
 }
 
 fn d3(l: &mut List) {
@@ -119,11 +148,13 @@ fn d3(l: &mut List) {
     last[31] = 1;
     let old = [entry(key(&[0x80]), 1), entry(last, 2)];
     let base = pushed!(nomt, &old, 2, 255);
-    let mut below: Vec<Key> = (0..106u8).map(|i| {
-        let mut k = key(&[i + 1]);
-        k[31] = 1;
-        k
-    }).collect();
+    let mut below: Vec<Key> = (0..106u8)
+        .map(|i| {
+            let mut k = key(&[i + 1]);
+            k[31] = 1;
+            k
+        })
+        .collect();
     let mut short = key(&[0x7f]);
     short[7] = 2;
     below.push(short);
@@ -135,13 +166,19 @@ fn d3(l: &mut List) {
     }
     b.push_chunk(&base, 0, 2, &[]);
     let theirs = b.finish();
-    let lost: Vec<usize> = (0..107).filter(|i| theirs.pointer(*i) != 0xffff_ffff).collect();
+    let lost: Vec<usize> = (0..107)
+        .filter(|i| theirs.pointer(*i) != 0xffff_ffff)
+        .collect();
     let mut page = [0; PAGE];
-    let mut edits: Vec<Edit> = below.iter().map(|k| Edit::Insert(*k, 0xffff_ffff)).collect();
+    let mut edits: Vec<Edit> = below
+        .iter()
+        .map(|k| Edit::Insert(*k, 0xffff_ffff))
+        .collect();
     edits.push(Edit::Keep(0, 2));
     let a = build(base.bytes(), &edits, 0, &mut page, &mut [0; 100]);
     let all = naive::entries_of(&page);
-    let kept = a.refusal == 0 && all[..107].iter().all(|e| e.pointer == 0xffff_ffff) && all[107..] == old;
+    let kept =
+        a.refusal == 0 && all[..107].iter().all(|e| e.pointer == 0xffff_ffff) && all[107..] == old;
     let good = body == 4086 && lost == [0, 1, 2, 3, 4, 5, 6, 7] && kept;
     l.say("D3", &format!("107 keys and a chunk from q 255 to 0, body {body}: the Rust overwrites the pointers {lost:?}, the port none"), good);
 }
@@ -151,7 +188,14 @@ fn d4(l: &mut List) {
     let base = pushed!(nomt, &[entry(k, 1)], 1, 65);
     let theirs = carried!(nomt, base, 0, 1, 0);
     let wrong = key(&[0, 0, 0, 0, 0, 0, 0, 0, 0x40]);
-    l.say("D4", &format!("q 65 to 1: key 0000000000000000c0 reads back as {}", hex(&theirs[..9])), theirs == wrong);
+    l.say(
+        "D4",
+        &format!(
+            "q 65 to 1: key 0000000000000000c0 reads back as {}",
+            hex(&theirs[..9])
+        ),
+        theirs == wrong,
+    );
 
     // where it is short: a key of ones, every q to every shorter one, behind up to seven bits
     let all = ones(256);
@@ -181,7 +225,11 @@ fn d4(l: &mut List) {
         let a = build(&base, &edits, 0, &mut page, &mut [0; 100]);
         good &= a.refusal == 0 && a.q == 4 && naive::entries_of(&page)[1..] == old;
     }
-    l.say("D4", "the port carries every bit from q 65, 68, 72, 130 and 200 to q 4", good);
+    l.say(
+        "D4",
+        "the port carries every bit from q 65, 68, 72, 130 and 200 to q 4",
+        good,
+    );
 }
 
 fn d5(l: &mut List) {
@@ -189,13 +237,27 @@ fn d5(l: &mut List) {
     let theirs = nomt::separate(&a, &b);
     let stops = panics(|| nomt::separate(&a, &a));
     let mut out = [7; 32];
-    let (x, y) = (port::separate(&a, &b, &mut out), port::separate(&a, &a, &mut out));
+    let (x, y) = (
+        port::separate(&a, &b, &mut out),
+        port::separate(&a, &a, &mut out),
+    );
     let good = theirs == b && stops && (x, y) == (17, 17) && out == [7; 32];
-    l.say("D5", &format!("separate(80, 00): the Rust answers {}, equal keys panic; the port says {x} and {y}", hex(&theirs[..1])), good);
+    l.say(
+        "D5",
+        &format!(
+            "separate(80, 00): the Rust answers {}, equal keys panic; the port says {x} and {y}",
+            hex(&theirs[..1])
+        ),
+        good,
+    );
 }
 
 fn d6(l: &mut List) {
-    let old = [entry(key(&[0x10]), 1), entry(key(&[0x20]), 2), entry(key(&[0x40]), 3)];
+    let old = [
+        entry(key(&[0x10]), 1),
+        entry(key(&[0x20]), 2),
+        entry(key(&[0x40]), 3),
+    ];
     let base = naive::page_with(0, &old, 1, 0, &[4, 3, 2]);
     let stops = panics(|| nomt_checked::tracked(&base, 2, 3));
     let (keys, chunks) = nomt::tracked(&base, 2, 3);
@@ -221,9 +283,23 @@ fn d7(l: &mut List) {
     let mut wrong = b;
     wrong[15] = 0x80;
     let mut page = [0; PAGE];
-    let x = build(base.bytes(), &[Edit::Keep(0, 2)], 0, &mut page, &mut [0; 100]);
+    let x = build(
+        base.bytes(),
+        &[Edit::Keep(0, 2)],
+        0,
+        &mut page,
+        &mut [0; 100],
+    );
     let good = theirs == wrong && x.refusal == 0 && x.q == 64 && naive::entries_of(&page) == old;
-    l.say("D7", &format!("fifteen ff and c0 from q 0 to 64 reads back with {}; the port, to q {}, with c0", hex(&theirs[15..16]), x.q), good);
+    l.say(
+        "D7",
+        &format!(
+            "fifteen ff and c0 from q 0 to 64 reads back with {}; the port, to q {}, with c0",
+            hex(&theirs[15..16]),
+            x.q
+        ),
+        good,
+    );
 }
 
 fn d8(l: &mut List) {
@@ -270,7 +346,11 @@ fn d9(l: &mut List) {
         page[6..8].copy_from_slice(&1u16.to_le_bytes());
         said.push(port::check(&page).refusal);
     }
-    l.say("D9", &format!("pages of 681 and 682 entries with no bits: {said:?}"), said == [7, 5]);
+    l.say(
+        "D9",
+        &format!("pages of 681 and 682 entries with no bits: {said:?}"),
+        said == [7, 5],
+    );
 
     // the densest keys: 0 to 255 behind nine zero bits, and all of up to eight or nine bits
     let mut cheap: Vec<Key> = (0..256u32).map(|i| key(&(i << 15).to_be_bytes())).collect();
@@ -291,7 +371,13 @@ fn d9(l: &mut List) {
     }
     let mut undo = vec![0; 24_688];
     let mut page = [0; PAGE];
-    let a = build(&base, &[Edit::Insert([0xff; 32], 1)], 0, &mut page, &mut undo);
+    let a = build(
+        &base,
+        &[Edit::Insert([0xff; 32], 1)],
+        0,
+        &mut page,
+        &mut undo,
+    );
     let good = answers == [0, 14] && a.undo == 21_425;
     l.say("D9", &format!("591 of the densest keys fit, 592 do not ({answers:?}); the undo record of all 591 has {} bytes", a.undo), good);
 }
@@ -314,16 +400,31 @@ fn copy(l: &mut List) {
     let (mut theirs, mut mine) = ([0u8; 16], [0u8; 16]);
     nomt::bitwise_memcpy(&mut theirs, 0, &[0x80], 0, 1);
     let no = port::bit_copy(&mut mine, 0, &[0x80], 0, 1);
-    l.say("copy", "a source of 1 byte and 1 bit: the Rust copies nothing, the port the bit", theirs[0] == 0 && no == 0 && mine[0] == 0x80);
+    l.say(
+        "copy",
+        "a source of 1 byte and 1 bit: the Rust copies nothing, the port the bit",
+        theirs[0] == 0 && no == 0 && mine[0] == 0x80,
+    );
     let mut other = [0u8; 16];
     let stops = panics(|| nomt::bitwise_memcpy(&mut other, 0, &[0xff, 0xff], 0, 9));
     let no = port::bit_copy(&mut mine, 0, &[0xff, 0xff], 0, 9);
-    l.say("copy", "of 2 bytes and 9 bits: the Rust panics, the port copies them", stops && no == 0 && mine[..3] == [0xff, 0x80, 0]);
+    l.say(
+        "copy",
+        "of 2 bytes and 9 bits: the Rust panics, the port copies them",
+        stops && no == 0 && mine[..3] == [0xff, 0x80, 0],
+    );
     let mut theirs = [0u8; 16];
     nomt::bitwise_memcpy(&mut theirs, 0, &[0xff; 16], 0, 1);
     mine = [0; 16];
     port::bit_copy(&mut mine, 0, &[0xff; 16], 0, 1);
-    l.say("copy", &format!("of 16 bytes and 1 bit: the Rust writes {}, the port one bit", hex(&theirs[..9])), theirs[1] != 0 && mine[0] == 0x80 && mine[1..] == [0; 15]);
+    l.say(
+        "copy",
+        &format!(
+            "of 16 bytes and 1 bit: the Rust writes {}, the port one bit",
+            hex(&theirs[..9])
+        ),
+        theirs[1] != 0 && mine[0] == 0x80 && mine[1..] == [0; 15],
+    );
 }
 
 /// Shows each; true where all are as said.

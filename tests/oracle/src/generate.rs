@@ -48,7 +48,9 @@ impl Random {
         match self.below(6) {
             0 => self.below(10) as u64,
             1 => self.below(1000) as u64,
-            2 => (1u64 << self.below(64)).wrapping_add(self.below(5) as u64).wrapping_sub(2),
+            2 => (1u64 << self.below(64))
+                .wrapping_add(self.below(5) as u64)
+                .wrapping_sub(2),
             3 => u64::MAX - self.below(4) as u64,
             4 => u64::MAX / (1 + self.below(9) as u64),
             _ => self.next(),
@@ -123,7 +125,11 @@ pub fn keys(r: &mut Random, n: usize) -> Vec<Key> {
                 }
                 from = shared;
             }
-            let len = if r.once_in(3) { most } else { r.below(most + 1) };
+            let len = if r.once_in(3) {
+                most
+            } else {
+                r.below(most + 1)
+            };
             cut(&mut k, (from + len).min(256));
             k
         })
@@ -134,7 +140,12 @@ pub fn keys(r: &mut Random, n: usize) -> Vec<Key> {
 }
 
 pub fn entries(r: &mut Random, keys: &[Key]) -> Vec<Entry> {
-    keys.iter().map(|k| Entry { key: *k, pointer: r.number() as u32 }).collect()
+    keys.iter()
+        .map(|k| Entry {
+            key: *k,
+            pointer: r.number() as u32,
+        })
+        .collect()
 }
 
 /// At least one entry, and as many as have room.
@@ -187,18 +198,32 @@ pub fn page_of(r: &mut Random, all: &[Entry]) -> Vec<u8> {
     let mut c = naive::choice(&keys);
     if r.once_in(2) {
         let m = r.from_to(1, all.len());
-        let q = if r.once_in(2) { shares[m - 1] } else { r.below(shares[m - 1] + 1) };
+        let q = if r.once_in(2) {
+            shares[m - 1]
+        } else {
+            r.below(shares[m - 1] + 1)
+        };
         let bits = naive::choice_bits(&lens, m, q);
         if naive::body_bytes(all.len(), bits) <= BODY {
             c = naive::Choice { m, q, bits };
         }
     }
     let mut stored: Vec<usize> = (0..all.len())
-        .map(|i| if i < c.m { lens[i].saturating_sub(c.q) } else { lens[i] })
+        .map(|i| {
+            if i < c.m {
+                lens[i].saturating_sub(c.q)
+            } else {
+                lens[i]
+            }
+        })
         .collect();
     // zero bits at the ends, to the brim at times
     let mut room = 8 * (BODY - 6 * all.len()) - c.bits;
-    let turns = if r.once_in(3) { 3 * all.len() } else { r.below(4) };
+    let turns = if r.once_in(3) {
+        3 * all.len()
+    } else {
+        r.below(4)
+    };
     for _ in 0..turns {
         let i = r.below(all.len());
         let has = stored[i] + if i < c.m { c.q } else { 0 };
@@ -339,7 +364,11 @@ pub fn edits(r: &mut Random, base: &[Entry]) -> Vec<Edit> {
             i = end;
             last = Some(base[i - 1].key);
         } else if what < keep + update {
-            let pointer = if r.once_in(5) { base[i].pointer } else { r.number() as u32 };
+            let pointer = if r.once_in(5) {
+                base[i].pointer
+            } else {
+                r.number() as u32
+            };
             out.push(Edit::Update(i, pointer));
             last = Some(base[i].key);
             i += 1;
@@ -369,7 +398,10 @@ pub fn edits(r: &mut Random, base: &[Entry]) -> Vec<Edit> {
 pub fn wrong_edits(r: &mut Random, n: usize, good: &[Edit]) -> Vec<Edit> {
     let mut es = good.to_vec();
     let at = r.below(es.len().max(1)).min(es.len().saturating_sub(1));
-    let place = |r: &mut Random| r.pick(&[0, 1, n.saturating_sub(1), n, n + 1, 1023]).min(1023);
+    let place = |r: &mut Random| {
+        r.pick(&[0, 1, n.saturating_sub(1), n, n + 1, 1023])
+            .min(1023)
+    };
     match r.below(8) {
         0 => {
             let p = place(r);

@@ -22,7 +22,8 @@ fn main() {
         Some("bench") => bench::run(),
         Some("differences") => differences::run(),
         _ => {
-            let number = |i: usize, usual: u64| word(i).map_or(usual, |s| s.parse().expect("a number"));
+            let number =
+                |i: usize, usual: u64| word(i).map_or(usual, |s| s.parse().expect("a number"));
             let known = differences::run();
             compare::run(number(0, 1), number(1, 1) as usize) && known
         }

@@ -128,7 +128,13 @@ fn part(bytes: &[u8], at: u64, len: u64) -> Bits {
     bits_of(bytes)[at as usize..][..len as usize].to_vec()
 }
 
-pub fn bit_copy(dst: &mut [u8], dst_bit: u64, src: &[u8], src_bit: u64, len: u64) -> Result<(), u64> {
+pub fn bit_copy(
+    dst: &mut [u8],
+    dst_bit: u64,
+    src: &[u8],
+    src_bit: u64,
+    len: u64,
+) -> Result<(), u64> {
     if !inside(dst.len(), dst_bit, len) || !inside(src.len(), src_bit, len) {
         return Err(18);
     }
@@ -166,7 +172,10 @@ pub fn body_size(q: u64, sum: u64, n: u64) -> Result<u64, u64> {
 }
 
 pub fn whole_from_stored(q: u64, sum: u64, n: u64, first: u64) -> Result<u64, u64> {
-    exact(sum as u128 + q as u128 * n as u128, q.saturating_sub(first) as u128)
+    exact(
+        sum as u128 + q as u128 * n as u128,
+        q.saturating_sub(first) as u128,
+    )
 }
 
 pub fn stored_from_whole(first: u64, m: u64, others: u64, q: u64) -> Result<u64, u64> {
@@ -230,7 +239,13 @@ pub fn check(page: &[u8]) -> Result<Header, u64> {
         }
     }
     let number = le(&page[0..4]) as u32;
-    Ok(Header { number, n, m, q, bits: q + end_of(page, n - 1) })
+    Ok(Header {
+        number,
+        n,
+        m,
+        q,
+        bits: q + end_of(page, n - 1),
+    })
 }
 
 // the entries of a page that 1 to 7 accept
@@ -242,7 +257,10 @@ fn entries(page: &[u8]) -> Vec<Entry> {
         let mut key = if i < m { body[..q].to_vec() } else { vec![] };
         key.extend(&body[q + start_of(page, i)..q + end_of(page, i)]);
         let pointer = le(&page[PAGE - 4 * n + 4 * i..][..4]) as u32;
-        all.push(Entry { key: key_of(&key), pointer });
+        all.push(Entry {
+            key: key_of(&key),
+            pointer,
+        });
     }
     all
 }
@@ -275,7 +293,10 @@ fn stored_len(len: usize, i: usize, m: usize, q: usize) -> usize {
 
 /// Bits of a choice, from the separator lengths.
 pub fn choice_bits(lens: &[usize], m: usize, q: usize) -> usize {
-    let stored = lens.iter().enumerate().map(|(i, len)| stored_len(*len, i, m, q));
+    let stored = lens
+        .iter()
+        .enumerate()
+        .map(|(i, len)| stored_len(*len, i, m, q));
     q + stored.sum::<usize>()
 }
 
@@ -291,7 +312,11 @@ pub fn shared_of_first(keys: &[Key]) -> Vec<usize> {
 pub fn choice(keys: &[Key]) -> Choice {
     let lens: Vec<usize> = keys.iter().map(separator_len).collect();
     let shares = shared_of_first(keys);
-    let mut best = Choice { m: 1, q: 0, bits: choice_bits(&lens, 1, 0) };
+    let mut best = Choice {
+        m: 1,
+        q: 0,
+        bits: choice_bits(&lens, 1, 0),
+    };
     for m in 2..=keys.len() {
         let q = shares[m - 1];
         let bits = choice_bits(&lens, m, q);
@@ -405,7 +430,10 @@ pub fn apply(base: &[Entry], edits: &[Edit]) -> Vec<Entry> {
     for e in edits {
         match *e {
             Edit::Insert(key, pointer) => new.push(Entry { key, pointer }),
-            Edit::Update(position, pointer) => new.push(Entry { key: base[position].key, pointer }),
+            Edit::Update(position, pointer) => new.push(Entry {
+                key: base[position].key,
+                pointer,
+            }),
             Edit::Keep(start, end) => new.extend(&base[start..end]),
         }
     }
@@ -422,7 +450,9 @@ pub fn undo(base: &[Entry], new: &[Entry]) -> Vec<Edit> {
             Some(p) if new[p].pointer != b.pointer => edits.push(Edit::Update(p, b.pointer)),
             Some(p) => {
                 match edits.last_mut() {
-                    Some(Edit::Keep(_, end)) if i > 0 && kept == Some(i - 1) && *end == p => *end += 1,
+                    Some(Edit::Keep(_, end)) if i > 0 && kept == Some(i - 1) && *end == p => {
+                        *end += 1
+                    }
                     _ => edits.push(Edit::Keep(p, p + 1)),
                 }
                 kept = Some(i);
@@ -434,7 +464,13 @@ pub fn undo(base: &[Entry], new: &[Entry]) -> Vec<Edit> {
 
 // ---- build
 
-pub fn build(base: &[u8], record: &[u8], number: u32, page: &mut [u8], undo_to: &mut [u8]) -> Result<Numbers, u64> {
+pub fn build(
+    base: &[u8],
+    record: &[u8],
+    number: u32,
+    page: &mut [u8],
+    undo_to: &mut [u8],
+) -> Result<Numbers, u64> {
     if !base.is_empty() {
         check(base)?;
     }
@@ -470,5 +506,11 @@ pub fn build(base: &[u8], record: &[u8], number: u32, page: &mut [u8], undo_to: 
     let c = choice(&keys_of(&new));
     page.copy_from_slice(&normal_page(number, &new));
     undo_to[..back.len()].copy_from_slice(&back);
-    Ok(Numbers { n: new.len(), m: c.m, q: c.q, bits: c.bits, undo: back.len() })
+    Ok(Numbers {
+        n: new.len(),
+        m: c.m,
+        q: c.q,
+        bits: c.bits,
+        undo: back.len(),
+    })
 }

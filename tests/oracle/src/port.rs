@@ -47,7 +47,12 @@ mod c {
 
     extern "C" {
         pub fn trussember_check(page: *const u8, page_len: usize) -> Checked;
-        pub fn trussember_entry(page: *const u8, page_len: usize, index: usize, key: *mut u8) -> EntryRead;
+        pub fn trussember_entry(
+            page: *const u8,
+            page_len: usize,
+            index: usize,
+            key: *mut u8,
+        ) -> EntryRead;
         pub fn trussember_bit_copy(
             dst: *mut u8,
             dst_len: usize,
@@ -71,8 +76,18 @@ mod c {
             out: *mut u8,
         ) -> u64;
         pub fn trussember_body_size(q: u64, sum: u64, n: u64) -> Size;
-        pub fn trussember_uncompressed_separator_range_size(q: u64, sum: u64, n: u64, first: u64) -> Size;
-        pub fn trussember_compressed_separator_range_size(first: u64, m: u64, others: u64, q: u64) -> Size;
+        pub fn trussember_uncompressed_separator_range_size(
+            q: u64,
+            sum: u64,
+            n: u64,
+            first: u64,
+        ) -> Size;
+        pub fn trussember_compressed_separator_range_size(
+            first: u64,
+            m: u64,
+            others: u64,
+            q: u64,
+        ) -> Size;
     }
 
     #[cfg(port_build)]
@@ -126,7 +141,12 @@ pub fn check(page: &[u8]) -> Checked {
 }
 
 pub fn entry(page: &[u8], index: usize, key: &mut Key) -> EntryRead {
-    call!(trussember_entry(page.as_ptr(), page.len(), index, key.as_mut_ptr()))
+    call!(trussember_entry(
+        page.as_ptr(),
+        page.len(),
+        index,
+        key.as_mut_ptr()
+    ))
 }
 
 pub fn build(base: &[u8], record: &[u8], number: u32, page: &mut [u8], undo: &mut [u8]) -> Built {
@@ -164,10 +184,21 @@ pub fn prefix_len(a: &Key, b: &Key) -> u64 {
 }
 
 pub fn separate(a: &Key, b: &Key, out: &mut Key) -> u64 {
-    call!(trussember_separate(a.as_ptr(), b.as_ptr(), out.as_mut_ptr()))
+    call!(trussember_separate(
+        a.as_ptr(),
+        b.as_ptr(),
+        out.as_mut_ptr()
+    ))
 }
 
-pub fn reconstruct_key(prefix: &[u8], p: usize, separator: &[u8], start: usize, s: usize, out: &mut Key) -> u64 {
+pub fn reconstruct_key(
+    prefix: &[u8],
+    p: usize,
+    separator: &[u8],
+    start: usize,
+    s: usize,
+    out: &mut Key,
+) -> u64 {
     call!(trussember_reconstruct_key(
         prefix.as_ptr(),
         prefix.len(),
@@ -185,9 +216,13 @@ pub fn body_size(q: u64, sum: u64, n: u64) -> Size {
 }
 
 pub fn uncompressed_separator_range_size(q: u64, sum: u64, n: u64, first: u64) -> Size {
-    call!(trussember_uncompressed_separator_range_size(q, sum, n, first))
+    call!(trussember_uncompressed_separator_range_size(
+        q, sum, n, first
+    ))
 }
 
 pub fn compressed_separator_range_size(first: u64, m: u64, others: u64, q: u64) -> Size {
-    call!(trussember_compressed_separator_range_size(first, m, others, q))
+    call!(trussember_compressed_separator_range_size(
+        first, m, others, q
+    ))
 }

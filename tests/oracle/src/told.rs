@@ -12,15 +12,34 @@ pub fn checked(r: Result<Header, u64>) -> Checked {
             q: h.q as u64,
             bits: h.bits as u64,
         },
-        Err(refusal) => Checked { refusal, number: 0, n: 0, m: 0, q: 0, bits: 0 },
+        Err(refusal) => Checked {
+            refusal,
+            number: 0,
+            n: 0,
+            m: 0,
+            q: 0,
+            bits: 0,
+        },
     }
 }
 
 /// The answer, and the key's buffer afterwards.
 pub fn entry(r: Result<Entry, u64>, was: &Key) -> (EntryRead, Key) {
     match r {
-        Ok(e) => (EntryRead { refusal: 0, pointer: e.pointer as u64 }, e.key),
-        Err(refusal) => (EntryRead { refusal, pointer: 0 }, *was),
+        Ok(e) => (
+            EntryRead {
+                refusal: 0,
+                pointer: e.pointer as u64,
+            },
+            e.key,
+        ),
+        Err(refusal) => (
+            EntryRead {
+                refusal,
+                pointer: 0,
+            },
+            *was,
+        ),
     }
 }
 
@@ -41,7 +60,14 @@ pub fn built(r: Result<Numbers, u64>) -> Built {
             bits: x.bits as u64,
             undo: x.undo as u64,
         },
-        Err(refusal) => Built { refusal, n: 0, m: 0, q: 0, bits: 0, undo: 0 },
+        Err(refusal) => Built {
+            refusal,
+            n: 0,
+            m: 0,
+            q: 0,
+            bits: 0,
+            undo: 0,
+        },
     }
 }
 

@@ -47,17 +47,24 @@ fn case(op: &str, x: &[&str]) -> (Vec<String>, bool) {
     match op {
         "sep_len" => {
             let n = naive::separator_len(&key(x[0])) as u64;
-            (answer(&Ok(n), one), !linked || port::separator_len(&key(x[0])) == n)
+            (
+                answer(&Ok(n), one),
+                !linked || port::separator_len(&key(x[0])) == n,
+            )
         }
         "shared" => {
             let n = naive::shared(&key(x[0]), &key(x[1])) as u64;
-            (answer(&Ok(n), one), !linked || port::prefix_len(&key(x[0]), &key(x[1])) == n)
+            (
+                answer(&Ok(n), one),
+                !linked || port::prefix_len(&key(x[0]), &key(x[1])) == n,
+            )
         }
         "separate" => {
             let (a, b) = (key(x[0]), key(x[1]));
             let r = naive::separate(&a, &b);
             let mut out = [7; 32];
-            let same = !linked || (port::separate(&a, &b, &mut out), out) == told::written(r, &[7; 32]);
+            let same =
+                !linked || (port::separate(&a, &b, &mut out), out) == told::written(r, &[7; 32]);
             (answer(&r, |k| vec![hex(k)]), same)
         }
         "copy" => {
@@ -67,7 +74,8 @@ fn case(op: &str, x: &[&str]) -> (Vec<String>, bool) {
             let r = naive::bit_copy(&mut d, to, &src, from, len);
             let mut e = dst.clone();
             let same = !linked
-                || port::bit_copy(&mut e, to as usize, &src, from as usize, len as usize) == r.err().unwrap_or(0)
+                || port::bit_copy(&mut e, to as usize, &src, from as usize, len as usize)
+                    == r.err().unwrap_or(0)
                     && e == d;
             let mut fields = answer(&r, |_| vec![]);
             fields.push(hex(&d));
@@ -79,8 +87,17 @@ fn case(op: &str, x: &[&str]) -> (Vec<String>, bool) {
             let r = naive::rebuild(&prefix, p, &sep, start, s);
             let mut out = [7; 32];
             let same = !linked
-                || (port::reconstruct_key(&prefix, p as usize, &sep, start as usize, s as usize, &mut out), out)
-                    == told::written(r, &[7; 32]);
+                || (
+                    port::reconstruct_key(
+                        &prefix,
+                        p as usize,
+                        &sep,
+                        start as usize,
+                        s as usize,
+                        &mut out,
+                    ),
+                    out,
+                ) == told::written(r, &[7; 32]);
             (answer(&r, |k| vec![hex(k)]), same)
         }
         "body" => {
@@ -91,15 +108,15 @@ fn case(op: &str, x: &[&str]) -> (Vec<String>, bool) {
         "whole" => {
             let y: Vec<u64> = x.iter().map(|s| num(s)).collect();
             let r = naive::whole_from_stored(y[0], y[1], y[2], y[3]);
-            let same =
-                !linked || port::uncompressed_separator_range_size(y[0], y[1], y[2], y[3]) == told::size(r);
+            let same = !linked
+                || port::uncompressed_separator_range_size(y[0], y[1], y[2], y[3]) == told::size(r);
             (answer(&r, one), same)
         }
         "stored" => {
             let y: Vec<u64> = x.iter().map(|s| num(s)).collect();
             let r = naive::stored_from_whole(y[0], y[1], y[2], y[3]);
-            let same =
-                !linked || port::compressed_separator_range_size(y[0], y[1], y[2], y[3]) == told::size(r);
+            let same = !linked
+                || port::compressed_separator_range_size(y[0], y[1], y[2], y[3]) == told::size(r);
             (answer(&r, one), same)
         }
         "check" => {
@@ -107,7 +124,10 @@ fn case(op: &str, x: &[&str]) -> (Vec<String>, bool) {
             let r = naive::check(&page);
             let same = !linked || port::check(&page) == told::checked(r);
             let values = [r.map_or(vec![], |h| {
-                vec![h.number as usize, h.n, h.m, h.q, h.bits].iter().map(|v| v.to_string()).collect()
+                vec![h.number as usize, h.n, h.m, h.q, h.bits]
+                    .iter()
+                    .map(|v| v.to_string())
+                    .collect()
             })];
             (answer(&r, |_| values[0].clone()), same)
         }
@@ -117,7 +137,10 @@ fn case(op: &str, x: &[&str]) -> (Vec<String>, bool) {
             let mut out = [7; 32];
             let same = !linked
                 || (port::entry(&page, index as usize, &mut out), out) == told::entry(r, &[7; 32]);
-            (answer(&r, |e| vec![hex(&e.key), e.pointer.to_string()]), same)
+            (
+                answer(&r, |e| vec![hex(&e.key), e.pointer.to_string()]),
+                same,
+            )
         }
         "build" => {
             let (base, record, number) = (unhex(x[0]), unhex(x[1]), num(x[2]) as u32);
@@ -128,7 +151,12 @@ fn case(op: &str, x: &[&str]) -> (Vec<String>, bool) {
                 || port::build(&base, &record, number, &mut page2, &mut undo2) == told::built(r)
                     && page2 == page
                     && undo2 == undo;
-            let mut fields = answer(&r, |b| [b.n, b.m, b.q, b.bits, b.undo].iter().map(|v| v.to_string()).collect());
+            let mut fields = answer(&r, |b| {
+                [b.n, b.m, b.q, b.bits, b.undo]
+                    .iter()
+                    .map(|v| v.to_string())
+                    .collect()
+            });
             fields.push(hex(&page));
             fields.push(hex(&undo));
             (fields, same)
@@ -165,6 +193,10 @@ pub fn run(path: &str) -> bool {
     for (op, (all, refused)) in counts {
         println!("{op:10} {all:6} cases, {refused:6} refused");
     }
-    println!("port: linked {}, with build {}; {bad} differences", port::LINKED, port::BUILDS);
+    println!(
+        "port: linked {}, with build {}; {bad} differences",
+        port::LINKED,
+        port::BUILDS
+    );
     bad == 0
 }

@@ -47,7 +47,11 @@ impl Bits {
     }
 
     fn part(&self, from: usize, to: usize) -> (*const u8, usize, usize) {
-        assert!(from <= to && to <= self.len(), "bits {from}..{to} of {}", self.len());
+        assert!(
+            from <= to && to <= self.len(),
+            "bits {from}..{to} of {}",
+            self.len()
+        );
         let at = self.at() + from;
         (self.first().wrapping_add(at / 8), at % 8, to - from)
     }

@@ -155,7 +155,10 @@ mod over {
     }
 
     #[inline(never)]
-    pub fn reconstruct_key(prefix: Option<(&[u8], usize)>, separator: (&[u8], usize, usize)) -> Key {
+    pub fn reconstruct_key(
+        prefix: Option<(&[u8], usize)>,
+        separator: (&[u8], usize, usize),
+    ) -> Key {
         bit_ops::reconstruct_key(prefix, separator)
     }
 
@@ -165,12 +168,22 @@ mod over {
     }
 
     #[inline(never)]
-    pub fn uncompressed_separator_range_size(q: usize, sum: usize, n: usize, first: usize) -> usize {
+    pub fn uncompressed_separator_range_size(
+        q: usize,
+        sum: usize,
+        n: usize,
+        first: usize,
+    ) -> usize {
         node::uncompressed_separator_range_size(q, sum, n, first)
     }
 
     #[inline(never)]
-    pub fn compressed_separator_range_size(first: usize, m: usize, others: usize, q: usize) -> usize {
+    pub fn compressed_separator_range_size(
+        first: usize,
+        m: usize,
+        others: usize,
+        q: usize,
+    ) -> usize {
         node::compressed_separator_range_size(first, m, others, q)
     }
 
@@ -221,7 +234,13 @@ mod over {
         }
 
         #[inline(never)]
-        pub fn push_chunk(&mut self, base: &Node, from: usize, to: usize, updated: &[(usize, u32)]) {
+        pub fn push_chunk(
+            &mut self,
+            base: &Node,
+            from: usize,
+            to: usize,
+            updated: &[(usize, u32)],
+        ) {
             let updated = updated.iter().map(|&(i, p)| (i, PageNumber(p)));
             self.0.push_chunk(&base.0, from, to, updated);
         }
@@ -234,7 +253,9 @@ mod over {
     /// What the tracker makes of one chunk: the keys of its inserts, and the chunks, by start and end.
     #[inline(never)]
     pub fn tracked(base: &[u8], start: usize, end: usize) -> (Vec<Key>, Vec<(usize, usize)>) {
-        let base = BaseBranch { node: Node::of(base).0 };
+        let base = BaseBranch {
+            node: Node::of(base).0,
+        };
         let mut tracker = BranchOpsTracker::new();
         tracker.push_chunk(&base, start, end);
         let (ops, _) = tracker.extract_ops();
