@@ -550,12 +550,19 @@ fn builds(t: &mut Tally, r: &mut Random, turns: usize) {
             let bad = gen::damaged(r, &base);
             built(t, &bad, &record, number, &page, &full);
         }
-        // more than a page holds
+        // as many as a page holds, and one more
         if r.once_in(6) {
             let k = gen::keys(r, 900);
-            let all: Vec<naive::Edit> = k.iter().map(|k| naive::Edit::Insert(*k, 1)).collect();
-            let many = naive::write_record(&all[..all.len().min(1023)]);
-            built(t, &base, &many, number, &page, &full);
+            let all = gen::entries(r, &k);
+            let good = gen::room_for(&all);
+            for count in [good, good + 1, all.len()] {
+                let es: Vec<naive::Edit> = all[..count.min(all.len())]
+                    .iter()
+                    .map(|e| naive::Edit::Insert(e.key, e.pointer))
+                    .collect();
+                let many = naive::write_record(&es);
+                built(t, &base, &many, number, &page, &full);
+            }
         }
     }
 }
@@ -670,7 +677,7 @@ pub fn run(seed: u64, factor: usize) -> bool {
     copies(&mut t, &mut r, 20_000 * factor);
     rebuilt(&mut t, &mut r, 20_000 * factor);
     sizes(&mut t, &mut r, 20_000 * factor);
-    pages(&mut t, &mut r, 1_500 * factor);
-    builds(&mut t, &mut r, 1_500 * factor);
+    pages(&mut t, &mut r, 2_000 * factor);
+    builds(&mut t, &mut r, 3_000 * factor);
     t.print()
 }

@@ -152,6 +152,11 @@ pub fn entries(r: &mut Random, keys: &[Key]) -> Vec<Entry> {
 pub fn fitting(r: &mut Random, most: usize) -> Vec<Entry> {
     let k = keys(r, most);
     let all = entries(r, &k);
+    all[..room_for(&all)].to_vec()
+}
+
+/// How many of the first entries have room on a page, one at least.
+pub fn room_for(all: &[Entry]) -> usize {
     let (mut good, mut bad) = (1, all.len() + 1);
     while good + 1 < bad {
         let mid = (good + bad) / 2;
@@ -161,7 +166,7 @@ pub fn fitting(r: &mut Random, most: usize) -> Vec<Entry> {
             bad = mid;
         }
     }
-    all[..good].to_vec()
+    good
 }
 
 /// How many entries to ask for: few, some, or more than any page has.
@@ -251,7 +256,7 @@ pub fn damaged(r: &mut Random, page: &[u8]) -> Vec<u8> {
         if p.len() < PAGE {
             break;
         }
-        match r.below(9) {
+        match r.below(10) {
             0 => {
                 let at = r.below(80);
                 p[at / 8] ^= 128 >> (at % 8);
@@ -292,6 +297,12 @@ pub fn damaged(r: &mut Random, page: &[u8]) -> Vec<u8> {
                 let x = (p[i] as u16 | (p[i + 1] as u16) << 8).wrapping_add(r.pick(&[1, 0xffff]));
                 p[i] = x as u8;
                 p[i + 1] = (x >> 8) as u8;
+            }
+            8 => {
+                // one bit more or less at the body's end
+                let i = if r.once_in(3) { 8 } else { 8 + 2 * n.min(1000) };
+                let x = u16::from_le_bytes([p[i], p[i + 1]]).wrapping_add(r.pick(&[1, 1, 0xffff]));
+                p[i..i + 2].copy_from_slice(&x.to_le_bytes());
             }
             _ => {
                 if r.once_in(3) {
