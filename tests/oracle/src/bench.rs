@@ -34,7 +34,7 @@ fn row(name: &str, mine: Option<f64>, theirs: Option<f64>) {
         _ => "-".to_string(),
     };
     println!(
-        "{name:58} {:>9} {:>9} {ratio:>7}",
+        "{name:68} {:>9} {:>9} {ratio:>7}",
         shown(mine),
         shown(theirs)
     );
@@ -156,7 +156,7 @@ pub fn run() -> bool {
         println!("The library has no trussember_build: its figures stay empty.");
     }
     println!();
-    println!("{:58} {:>9} {:>9} {:>7}", "", "port", "Rust", "ratio");
+    println!("{:68} {:>9} {:>9} {:>7}", "", "port", "Rust", "ratio");
     let r = &mut Random::new(3);
 
     // bit copy
