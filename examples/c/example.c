@@ -1,5 +1,5 @@
-/* Document 01's worked example over C linkage: the keys 80 and C0 with the pointers 17 and 34 on page
- * 7, checked and read. examples/c/run compiles it, links it and compares what it prints. */
+/* Document 01's worked example over C linkage: the keys 80 and C0 with the pointers 17 and 34 on
+ * page 7, checked and read. examples/c/run compiles it, links it and compares what it prints. */
 #include "trussember.h"
 
 #include <inttypes.h>
@@ -24,8 +24,8 @@ int main(void)
     memcpy(page + TRUSSEMBER_PAGE_SIZE - sizeof pointers, pointers, sizeof pointers);
 
     trussember_checked h = trussember_check(page, sizeof page);
-    printf("check: refusal %" PRIu64 ", number %" PRIu64 ", n %" PRIu64 ", m %" PRIu64 ", q %" PRIu64
-           ", bits %" PRIu64 "\n",
+    printf("check: refusal %" PRIu64 ", number %" PRIu64 ", n %" PRIu64 ", m %" PRIu64
+           ", q %" PRIu64 ", bits %" PRIu64 "\n",
            h.refusal, h.number, h.n, h.m, h.q, h.bits);
     for (size_t i = 0; i <= h.n; i++) {
         uint8_t key[32] = {0};

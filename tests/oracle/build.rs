@@ -1,6 +1,6 @@
-// Links libtrussember.a, which `rt staticlib trussember` writes, if it is there: from target/staticlib
-// at the repository's top, or from the folder that TRUSSEMBER_LIB names. Sets `port`, and `port_build`
-// where the library exports trussember_build.
+// Links libtrussember.a, which `rt staticlib trussember` writes, if it is there: from
+// target/staticlib at the repository's top, or from the folder that TRUSSEMBER_LIB names. Sets
+// `port`, and `port_build` where the library exports trussember_build.
 use std::env;
 use std::fs;
 use std::path::PathBuf;

@@ -1,5 +1,5 @@
-// Takes the texts of bit_ops.rs, node.rs and branch_ops.rs, unchanged, from ../shared/docs beside the
-// repository, or from the folder that TRUSSEMBER_TEXTS names. Sets `text` where they are there.
+// Takes the texts of bit_ops.rs, node.rs and branch_ops.rs, unchanged, from ../shared/docs beside
+// the repository, or from the folder that TRUSSEMBER_TEXTS names. Sets `text` where they are there.
 use std::env;
 use std::fs;
 use std::path::PathBuf;

@@ -40,8 +40,8 @@ fn row(name: &str, mine: Option<f64>, theirs: Option<f64>) {
     );
 }
 
-// n ascending keys: of up to 200, 56 or 18 bits for 100, 300 and 500 of them, behind `under` bits that
-// all of them share
+// n ascending keys: of up to 200, 56 or 18 bits for 100, 300 and 500 of them, behind `under` bits
+// that all of them share
 fn keys(r: &mut Random, n: usize, under: usize) -> Vec<Key> {
     let most = match n {
         0..=100 => 200,
@@ -143,9 +143,18 @@ pub fn run() -> bool {
         println!("libtrussember.a is not there: write it with 'rt staticlib trussember'");
         return false;
     }
-    println!("Port beside Rust, nanoseconds a call, one core, one run: each figure is the least of {BATCHES} batches of");
-    println!("about 100 us. Everything is in cache; buffers are made before and not cleared between calls. Both are called");
-    println!("through functions that are not inlined, the port over C linkage. Keys and bits come from a fixed seed. bitvec,");
+    println!(
+        "Port beside Rust, nanoseconds a call, one core, one run: each figure is the least \
+         of {BATCHES} batches of"
+    );
+    println!(
+        "about 100 us. Everything is in cache; buffers are made before and not cleared \
+         between calls. Both are called"
+    );
+    println!(
+        "through functions that are not inlined, the port over C linkage. Keys and bits come \
+         from a fixed seed. bitvec,"
+    );
     println!(
         "inside the Rust's pushes, is a stand-in that copies by 64-bit groups. '-': there is none."
     );
@@ -240,7 +249,10 @@ pub fn run() -> bool {
 
     // pages
     println!();
-    println!("The port checks a whole page (1 to 8) before it reads a key; get_key checks nothing. The Rust has no check.");
+    println!(
+        "The port checks a whole page (1 to 8) before it reads a key; get_key checks \
+         nothing. The Rust has no check."
+    );
     let mut sets = vec![];
     for n in [100, 300, 500] {
         let (k, other) = (keys(r, n, 0), keys(r, n, 0));
@@ -280,10 +292,22 @@ pub fn run() -> bool {
 
     // builds
     println!();
-    println!("A whole build of the port: base checked, record read, prefix chosen, page and undo record written. The Rust is");
-    println!("handed the entries, m and q: pushes with separator_len, or the kept run by push_chunk, and nothing else. Keys are");
-    println!("random, of up to 200, 56 and 18 bits for 100, 300 and 500 entries; under one prefix: behind 16 shared bits, so");
-    println!("that all are compressed and one chunk holds them; else the chunk holds those below m, and the others are pushed.");
+    println!(
+        "A whole build of the port: base checked, record read, prefix chosen, page and undo \
+         record written. The Rust is"
+    );
+    println!(
+        "handed the entries, m and q: pushes with separator_len, or the kept run by \
+         push_chunk, and nothing else. Keys are"
+    );
+    println!(
+        "random, of up to 200, 56 and 18 bits for 100, 300 and 500 entries; under one \
+         prefix: behind 16 shared bits, so"
+    );
+    println!(
+        "that all are compressed and one chunk holds them; else the chunk holds those below \
+         m, and the others are pushed."
+    );
     let mut slowest: Option<(f64, String)> = None;
     for (n, all, other, prefixed) in &sets {
         let n = *n;
@@ -338,7 +362,10 @@ pub fn run() -> bool {
             "NOT reached"
         };
         println!();
-        println!("pages a second on one core: {pages:.0} in the slowest of these ({name}); the aim of 30000 is {word}");
+        println!(
+            "pages a second on one core: {pages:.0} in the slowest of these ({name}); the \
+             aim of 30000 is {word}"
+        );
     }
     true
 }

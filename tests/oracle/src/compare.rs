@@ -1,4 +1,5 @@
-//! The comparisons: counted by kind, refusals by number, and of the inputs that differ the smallest.
+//! The comparisons: counted by kind, refusals by number, and of the inputs that differ the
+//! smallest.
 use crate::generate::{self as gen, Random};
 use crate::naive::{self, Entry, Key, PAGE};
 use crate::vectors::hex;
@@ -415,7 +416,8 @@ fn pages(t: &mut Tally, r: &mut Random, turns: usize) {
     }
 }
 
-// the build that is compared: the port's, or where that has none the naive one, held to the Rust alone
+// the build that is compared: the port's, or where that has none the naive one, held to the Rust
+// alone
 fn build(base: &[u8], record: &[u8], number: u32, page: &mut [u8], undo: &mut [u8]) -> port::Built {
     if port::BUILDS {
         port::build(base, record, number, page, undo)
@@ -444,15 +446,21 @@ fn built(
         } else {
             "build refused and memory untouched, naive"
         };
-        t.same(kind, mine == said && p == p2 && u == u2, weight(&[base, record]), || {
-            format!(
-                "base {} record {} number {number} page of {} bytes, undo of {}: port {mine:?}, naive {said:?}",
+        t.same(
+            kind,
+            mine == said && p == p2 && u == u2,
+            weight(&[base, record]),
+            || {
+                format!(
+                "base {} record {} number {number} page of {} bytes, undo of {}: port {mine:?}, \
+                     naive {said:?}",
                 hex(base),
                 hex(record),
                 page.len(),
                 undo.len()
             )
-        });
+            },
+        );
     }
     (mine, p, u)
 }
@@ -668,7 +676,10 @@ pub fn run(seed: u64, factor: usize) -> bool {
         println!("the Rust's texts are not there: what is compared with the Rust is skipped");
     }
     if !port::BUILDS {
-        println!("libtrussember.a has no trussember_build: the naive build is held to the Rust in its place");
+        println!(
+            "libtrussember.a has no trussember_build: the naive build is held to the Rust in \
+             its place"
+        );
     }
     println!("seed {seed}, factor {factor}");
     let mut t = Tally::default();

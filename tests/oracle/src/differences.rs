@@ -1,5 +1,5 @@
-//! The differences of docs/DIFFERENCES.md, each from its smallest input: what the Rust's text does, and
-//! what the port does beside it.
+//! The differences of docs/DIFFERENCES.md, each from its smallest input: what the Rust's text does,
+//! and what the port does beside it.
 use crate::naive::{self, Edit, Entry, Key, PAGE};
 use crate::port;
 use crate::vectors::hex;
@@ -119,7 +119,11 @@ fn d2(l: &mut List) {
         &mut [0; 2],
     );
     let cleared = page[12] == 0x80 && page[13..PAGE - 4].iter().all(|b| *b == 0);
-    let text = format!("on a page of ff, key 80, m 1, q 1: the Rust's bytes 12 to 20 are {}; the port's are 0 up to the pointers", hex(&theirs));
+    let text = format!(
+        "on a page of ff, key 80, m 1, q 1: the Rust's bytes 12 to 20 are {}; the \
+         port's are 0 up to the pointers",
+        hex(&theirs)
+    );
     l.say(
         "D2",
         &text,
@@ -141,7 +145,14 @@ fn d3(l: &mut List) {
     let a = build(base.bytes(), &edits, 0, &mut page, &mut [0; 100]);
     let (t, p) = (ends(theirs.bytes()), ends(&page));
     let good = t == [3, 7, 8] && p == [0, 4, 5] && alike && (a.m, a.q) == (3, 2);
-    l.say("D3", &format!("base 80, 84, Keep 0..2, Insert a0: push_chunk ends at {t:?}, the port at {p:?} (m 3, q 2); read back alike"), good);
+    l.say(
+        "D3",
+        &format!(
+            "base 80, 84, Keep 0..2, Insert a0: push_chunk ends at {t:?}, the port \
+         at {p:?} (m 3, q 2); read back alike"
+        ),
+        good,
+    );
 
     // a page that is full by the formula
     let mut last = key(&[0x80]);
@@ -180,7 +191,14 @@ fn d3(l: &mut List) {
     let kept =
         a.refusal == 0 && all[..107].iter().all(|e| e.pointer == 0xffff_ffff) && all[107..] == old;
     let good = body == 4086 && lost == [0, 1, 2, 3, 4, 5, 6, 7] && kept;
-    l.say("D3", &format!("107 keys and a chunk from q 255 to 0, body {body}: the Rust overwrites the pointers {lost:?}, the port none"), good);
+    l.say(
+        "D3",
+        &format!(
+            "107 keys and a chunk from q 255 to 0, body {body}: the Rust overwrites \
+         the pointers {lost:?}, the port none"
+        ),
+        good,
+    );
 }
 
 fn d4(l: &mut List) {
@@ -213,7 +231,14 @@ fn d4(l: &mut List) {
             stops += panic as usize;
         }
     }
-    l.say("D4", &format!("a key of ones, every q to every shorter one: {bad} are short, exactly where (new q mod 8) + d > 64 ceil(d / 64); {stops} of them panic with overflow checks"), as_said && bad > 0 && stops > 0);
+    l.say(
+        "D4",
+        &format!(
+            "a key of ones, every q to every shorter one: {bad} are short, exactly \
+         where (new q mod 8) + d > 64 ceil(d / 64); {stops} of them panic with overflow checks"
+        ),
+        as_said && bad > 0 && stops > 0,
+    );
 
     // the port carries the right bits
     let mut good = true;
@@ -269,7 +294,15 @@ fn d6(l: &mut List) {
         && chunks == [(2, 1)]
         && a.refusal == 0
         && naive::entries_of(&page) == old[2..];
-    l.say("D6", &format!("base 10, 20, 40 with m 1, Keep 2..3: the tracker panics with overflow checks, without them it inserts {named:?} beside the chunk {chunks:?}; the port keeps 40 alone"), good);
+    l.say(
+        "D6",
+        &format!(
+            "base 10, 20, 40 with m 1, Keep 2..3: the tracker panics with overflow \
+         checks, without them it inserts {named:?} beside the chunk {chunks:?}; the port keeps 40 \
+         alone"
+        ),
+        good,
+    );
 }
 
 fn d7(l: &mut List) {
@@ -334,7 +367,14 @@ fn d8(l: &mut List) {
     edits.push(Edit::Keep(0, 1));
     let a = build(base.bytes(), &edits, 0, &mut page, &mut [0; 100]);
     let kept = a.refusal == 0 && page[at..PAGE - 4].iter().all(|b| *b == 0xff);
-    l.say("D8", &format!("a chunk from q 0 to 64 at the end of a page with body {body}: {zeros} pointer bytes become zero; the port's none"), body == 4086 && zeros == 7 && kept);
+    l.say(
+        "D8",
+        &format!(
+            "a chunk from q 0 to 64 at the end of a page with body {body}: {zeros} \
+         pointer bytes become zero; the port's none"
+        ),
+        body == 4086 && zeros == 7 && kept,
+    );
 }
 
 fn d9(l: &mut List) {
@@ -379,7 +419,15 @@ fn d9(l: &mut List) {
         &mut undo,
     );
     let good = answers == [0, 14] && a.undo == 21_425;
-    l.say("D9", &format!("591 of the densest keys fit, 592 do not ({answers:?}); the undo record of all 591 has {} bytes", a.undo), good);
+    l.say(
+        "D9",
+        &format!(
+            "591 of the densest keys fit, 592 do not ({answers:?}); the undo record \
+         of all 591 has {} bytes",
+            a.undo
+        ),
+        good,
+    );
 }
 
 fn d10(l: &mut List) {
@@ -388,11 +436,27 @@ fn d10(l: &mut List) {
     let stops = panics(|| nomt_checked::body_size(0, max as usize, 0));
     let mine = port::body_size(0, max, 0);
     let good = theirs == 0 && stops && (mine.refusal, mine.value) == (0, 1 << 61);
-    l.say("D10", &format!("body_size(0, 2^64 - 1, 0): the Rust {theirs}, with overflow checks a panic; the port {}", mine.value), good);
+    l.say(
+        "D10",
+        &format!(
+            "body_size(0, 2^64 - 1, 0): the Rust {theirs}, with overflow checks a \
+         panic; the port {}",
+            mine.value
+        ),
+        good,
+    );
     let theirs = nomt::compressed_separator_range_size(5, 0, 7, 2);
     let stops = panics(|| nomt_checked::compressed_separator_range_size(5, 0, 7, 2));
     let mine = port::compressed_separator_range_size(5, 0, 7, 2);
-    l.say("D10", &format!("stored lengths with m = 0: the Rust {theirs}, with overflow checks a panic; the port {}", mine.refusal), stops && mine.refusal == 19);
+    l.say(
+        "D10",
+        &format!(
+            "stored lengths with m = 0: the Rust {theirs}, with overflow checks a \
+         panic; the port {}",
+            mine.refusal
+        ),
+        stops && mine.refusal == 19,
+    );
 }
 
 // bitwise_memcpy outside its domain

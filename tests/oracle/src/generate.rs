@@ -183,8 +183,8 @@ pub fn count(r: &mut Random) -> usize {
 
 // ---- pages
 
-/// A page that 1 to 8 accept: normal, or with another choice, zero bits stored at the separators' ends
-/// and any bits behind them.
+/// A page that 1 to 8 accept: normal, or with another choice, zero bits stored at the separators'
+/// ends and any bits behind them.
 pub fn page(r: &mut Random) -> Vec<u8> {
     let most = count(r);
     let all = fitting(r, most);

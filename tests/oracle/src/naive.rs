@@ -1,5 +1,5 @@
-//! Document 01 in plain Rust, as it reads: bits are a vector of bools, nothing is clever. Refusals are
-//! their numbers.
+//! Document 01 in plain Rust, as it reads: bits are a vector of bools, nothing is clever. Refusals
+//! are their numbers.
 
 pub type Key = [u8; 32];
 pub type Bits = Vec<bool>;

@@ -1,6 +1,6 @@
-//! The naive implementation, and the port where it is linked, on a file of cases of document 01. One
-//! case a line, tabs between fields: operation, arguments, `=>`, `A` and values, or `R`, the number and
-//! two fields, and then lent memory afterwards.
+//! The naive implementation, and the port where it is linked, on a file of cases of document 01.
+//! One case a line, tabs between fields: operation, arguments, `=>`, `A` and values, or `R`, the
+//! number and two fields, and then lent memory afterwards.
 use crate::naive::{self, Key};
 use crate::{port, told};
 use std::collections::BTreeMap;

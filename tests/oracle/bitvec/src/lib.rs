@@ -9,8 +9,8 @@ pub mod prelude {
 
 pub struct Msb0;
 
-/// A run of bits. A reference to it holds the address of its first byte, and for a length eight times
-/// its count of bits and the place of the first bit in that byte.
+/// A run of bits. A reference to it holds the address of its first byte, and for a length eight
+/// times its count of bits and the place of the first bit in that byte.
 #[repr(transparent)]
 pub struct BitSlice<T, O> {
     kind: PhantomData<(T, O)>,

@@ -250,7 +250,8 @@ mod over {
         }
     }
 
-    /// What the tracker makes of one chunk: the keys of its inserts, and the chunks, by start and end.
+    /// What the tracker makes of one chunk: the keys of its inserts, and the chunks, by start and
+    /// end.
     #[inline(never)]
     pub fn tracked(base: &[u8], start: usize, end: usize) -> (Vec<Key>, Vec<(usize, usize)>) {
         let base = BaseBranch {
