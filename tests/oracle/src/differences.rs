@@ -497,6 +497,9 @@ pub fn run() -> bool {
         println!("the Rust's texts are not there: the known differences are not shown");
         return true;
     }
+    if !port::BUILDS {
+        println!("libtrussember.a has no trussember_build: the naive build stands in its place");
+    }
     let mut l = List { good: true };
     for f in [d1, d2, d3, d4, d5, d6, d7, d8, d9, d10, copy] {
         if panics(|| f(&mut l)) {
