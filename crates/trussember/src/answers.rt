@@ -19,6 +19,17 @@ pub struct EntryRead {
     pub pointer: u64,
 }
 
+// A build: what the new page's header says, its bits, and the undo record's length.
+#[repr(C)]
+pub struct Built {
+    pub refusal: u64,
+    pub n: u64,
+    pub m: u64,
+    pub q: u64,
+    pub bits: u64,
+    pub undo: u64,
+}
+
 // A size formula: its value.
 #[repr(C)]
 pub struct Size {

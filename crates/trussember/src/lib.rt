@@ -4,6 +4,7 @@
 // refusal lent memory is as it was. include/trussember.h says the same in C.
 pub mod answers;
 
+use crate::answers::Built;
 use crate::answers::Checked;
 use crate::answers::EntryRead;
 use crate::answers::Size;
@@ -13,6 +14,7 @@ use node::sizes;
 ghost use mathlib.Core.Path.{_≡_};
 ghost use Rattle.format.specs.Answer.{afterwards, refusalOf};
 ghost use Rattle.format.specs.Bits.{bitsOf, pack};
+ghost use Rattle.format.specs.Build.{build};
 ghost use Rattle.format.specs.Key.{separatorLength, sharedBits};
 ghost use Rattle.format.specs.Page.{checkPage, readEntry};
 ghost use Rattle.format.specs.Ranges.{bitCopy, rebuildKey, separate};
@@ -20,7 +22,7 @@ ghost use Rattle.format.specs.Refusals.{outcomeNumber};
 ghost use Rattle.format.specs.Sizes.{bodySize, storedFromWhole, wholeFromStored};
 ghost use Rattle.node.specs.Reader.{keyBytes, pointerRead};
 ghost use Rattle.node.specs.Sizes.{sizeAnswer};
-ghost use Rattle.trussember.specs.Told.{checkedTold, entryTold, sizeTold};
+ghost use Rattle.trussember.specs.Told.{builtTold, checkedTold, entryTold, sizeTold};
 
 // The number of an outcome, 0 for what is done.
 fn number(o: Outcome) -> u64
@@ -85,6 +87,46 @@ pub extern "C" fn trussember_entry(page: &[u8], index: usize, key: &mut [u8; 32]
         reader::EntryRead::Refused(why) => EntryRead {
             refusal: why.number(),
             pointer: 0,
+        },
+    }
+}
+
+// Builds a page from a base and an edit record, and the record that undoes it: n, m, q and bits of
+// the page, and the undo record's length. A base of length 0 means no base. Refused with 1 to 15.
+#[no_mangle]
+pub extern "C" fn trussember_build(
+    base: &[u8],
+    record: &[u8],
+    number: u32,
+    page: &mut [u8],
+    undo: &mut [u8],
+) -> Built
+    ensures answer { λ r. ⌜ r
+        ≡ builtTold (build (now (base .entry)) (now («record» .entry)) number (now (page .entry))
+        (now (undo .entry)) .answer) ⌝ }
+    ensures page { λ _. ⌜ now (page .exit)
+        ≡ build (now (base .entry)) (now («record» .entry)) number (now (page .entry))
+        (now (undo .entry)) .page ⌝ }
+    ensures undo { λ _. ⌜ now (undo .exit)
+        ≡ build (now (base .entry)) (now («record» .entry)) number (now (page .entry))
+        (now (undo .entry)) .undo ⌝ }
+{
+    match build::build(base, record, number, page, undo) {
+        build::Built::Page(made) => Built {
+            refusal: 0,
+            n: made.n as u64,
+            m: made.m as u64,
+            q: made.q as u64,
+            bits: made.bits as u64,
+            undo: made.undo as u64,
+        },
+        build::Built::Refused(why) => Built {
+            refusal: why.number(),
+            n: 0,
+            m: 0,
+            q: 0,
+            bits: 0,
+            undo: 0,
         },
     }
 }
