@@ -1,0 +1,2 @@
+-- What the contracts of `trussember` cite, as definitions.
+pub mod Told
