@@ -8,7 +8,7 @@ ghost use mathlib.Core.List.{_++_};
 ghost use Prim.Native.Nat.{_+_, _-_, _*_, _^_, _<_, _≤_};
 ghost use lib.ListN.{length, take, drop, getD};
 ghost use Rattle.format.specs.Bits.{bits, bitsOf, fill, unle};
-ghost use Rattle.words.specs.Words.{withWord};
+ghost use Rattle.words.specs.Words.{windowBits, withWord};
 
 // a - b, or 0 where that is below zero.
 pub fn over(a: usize, b: usize) -> usize
@@ -106,6 +106,18 @@ pub fn at_bit(s: &[u8], start: usize, skip: usize) -> u64
         return shifted(eight(s, i), wide(s[i + 8]), h % 8);
     }
     shifted(near_end(s, i), byte_at(s, i + 8), h % 8)
+}
+
+// The 64 bits from bit `start` on, where the nine bytes from there on are in the slice; else zeros.
+// As `at_bit`, with no way round the slice's end, so that a loop can hold it.
+pub fn window(s: &[u8], start: usize) -> u64
+    ensures answer { λ r. ⌜ bits 64 r ≡ windowBits (now (s .entry)) start ⌝ }
+{
+    let i = start / 8;
+    if i < over(s.len(), 8) {
+        return shifted(eight(s, i), wide(s[i + 8]), start % 8);
+    }
+    0
 }
 
 // The first k bits of x, and zeros; all of x where k is 64 or more.

@@ -2,38 +2,23 @@
 -- there on hold the 64 bits.
 -- Assumes nothing.
 use mathlib.Core.List.{List, _++_}
-use mathlib.Core.Path.{_≡_, sym, ap, ap₂, _∙_}
-use Prim.Native.Nat.{ℕ, _+_, _-_, _*_, _/_, _%_, _≤_}
+use mathlib.Core.Path.{_≡_}
+use Prim.Native.Nat.{ℕ, _+_, _-_, _*_, _/_, _%_}
 use native.Mathlib.Omega.{arith}
 use lib.ListN.{take, drop, getD}
-use lib.Seq.{drop-drop}
 use Rattle.format.specs.Bits.{bits, bitsOf, fill}
-use Rattle.facts.proofs.BitsLaws.{fill-add, take-fill}
-use Rattle.words.proofs.WindowLaws.{bits-byte, drop-fill}
+use Rattle.words.proofs.WindowLaws.{nine-bytes}
 use borrow.Author.Needs.{needs}
 use Rattle.words.proofs.at_bit.Statement.{statement}
 use Rattle.words.proofs.at_bit.Tie as tie
 
-window : (s : List ℕ) (start skip h i x y r : ℕ) → h ≡ start % 8 + skip % 8 → i ≡ start / 8 + skip / 8 + h / 8
+at : (s : List ℕ) (start skip h i x y r : ℕ) → h ≡ start % 8 + skip % 8 → i ≡ start / 8 + skip / 8 + h / 8
     → bits 64 x ≡ fill 64 (drop (8 * i) (bitsOf s)) → y ≡ getD s (i + 8) 0
     → bits 64 r ≡ take 64 (drop (h % 8) (bits 64 x ++ bits 8 y)) → bits 64 r ≡ fill 64 (drop (start + skip) (bitsOf s))
-window s start skip h i x y r eh ei ex ey er =
-    let g : ℕ = h % 8 in
-    let z : List ℕ = drop (8 * i) (bitsOf s) in
-    let e8 : 8 * (i + 8) ≡ 8 * i + 64 = omega arith in
-    let b8 : bits 8 y ≡ fill 8 (drop 64 z) =
-    ap (bits 8) ey ∙ bits-byte (i + 8) s
-    ∙ ap (fill 8) (ap (λ (k : ℕ). drop k (bitsOf s)) e8 ∙ sym (drop-drop 64 (8 * i) (bitsOf s))) in
-    let eq : 72 ≡ g + (72 - g) = omega arith in
-    let le : 64 ≤ 72 - g = omega arith in
-    let eb : 8 * i + g ≡ start + skip = omega arith in
-    er ∙ ap₂ (λ (u v : List ℕ). take 64 (drop g (u ++ v))) ex b8
-    ∙ ap (λ (u : List ℕ). take 64 (drop g u)) (sym (fill-add 64 8 z))
-    ∙ ap (λ (k : ℕ). take 64 (drop g (fill k z))) eq ∙ ap (take 64) (drop-fill g (72 - g) z)
-    ∙ take-fill 64 (72 - g) (drop g z) le
-    ∙ ap (fill 64) (drop-drop g (8 * i) (bitsOf s) ∙ ap (λ (k : ℕ). drop k (bitsOf s)) eb)
+at s start skip h i x y r eh ei ex ey er =
+    nine-bytes s (start + skip) i (h % 8) x y r (omega arith) (omega arith) ex ey er
 
-ruleset laws = (window)
+ruleset laws = (at)
 
 add-h : tie.Need-add-h
 add-h c = search needs
