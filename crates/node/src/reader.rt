@@ -16,7 +16,7 @@ ghost use Prim.Native.Nat.{_<_, _≤_};
 ghost use lib.Dec.{eqb, ltb};
 ghost use lib.ListN.{take};
 ghost use Rattle.format.specs.Answer.{afterwards};
-ghost use Rattle.format.specs.Bits.{fill};
+ghost use Rattle.format.specs.Bits.{fill, pack};
 ghost use Rattle.format.specs.Key.{below};
 ghost use Rattle.format.specs.Page.{
   body,
@@ -289,6 +289,18 @@ pub fn check(page: &[u8]) -> Checked
     load_page(page, &mut none)
 }
 
+// The key of entry i into 32 bytes, and its pointer.
+fn copy_entry(page: &[u8], h: Header, i: usize, key_out: &mut [u8; 32]) -> u64
+    requires { ⌜ SizesFit (now page) h × (i < h .n) ⌝ }
+    ensures answer { λ r. ⌜ r ≡ pointerOf (now (page .entry)) i ⌝ }
+    ensures written { λ _. ⌜ now («key_out» .exit) ≡ pack 32 (keyOf (now (page .entry)) i) ⌝ }
+{
+    let start = start_offset(page, i);
+    let key = get_key(page, h, prefix(page, h), i, start, cell(page, i));
+    key.to_bytes(key_out);
+    node_pointer(page, h, i)
+}
+
 // Entry `index` of a page: its pointer, and its key into `key_out`. Refused with 1 to 8, then with
 // 16 where the page has no such entry; `key_out` is then as it was.
 pub fn entry(page: &[u8], index: usize, key_out: &mut [u8; 32]) -> EntryRead
@@ -302,10 +314,7 @@ pub fn entry(page: &[u8], index: usize, key_out: &mut [u8; 32]) -> EntryRead
             if h.n <= index {
                 return EntryRead::Refused(Refusal::IndexPastEnd);
             }
-            let start = start_offset(page, index);
-            let key = get_key(page, h, prefix(page, h), index, start, cell(page, index));
-            key.to_bytes(key_out);
-            EntryRead::Pointer(node_pointer(page, h, index))
+            EntryRead::Pointer(copy_entry(page, h, index, key_out))
         }
     }
 }

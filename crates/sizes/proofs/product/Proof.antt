@@ -1,14 +1,14 @@
--- `node::sizes::product` meets its contract: a * b fits exactly where a is at most the largest number over b.
+-- `sizes::product` meets its contract: a * b fits exactly where a is at most the largest number over b.
 -- Assumes nothing.
 use mathlib.Core.Path.{_≡_, sym, ap, _∙_}
 use Prim.Native.Nat.{ℕ, _+_, _*_, _/_, _^_, _≤_, _<_}
 use native.Mathlib.Omega.{arith}
 use Rattle.format.specs.Answer.{Answer}
 use Rattle.format.specs.Sizes.{difference}
-use Rattle.node.proofs.SizesLaws.{diff-is, diff-high, times-le, times-past}
+use Rattle.sizes.proofs.SizesLaws.{diff-is, diff-high, times-le, times-past}
 use borrow.Author.Needs.{needs}
-use Rattle.node.proofs.sizes.product.Statement.{statement}
-use Rattle.node.proofs.sizes.product.Tie as tie
+use Rattle.sizes.proofs.product.Statement.{statement}
+use Rattle.sizes.proofs.product.Tie as tie
 
 fits : (a b : ℕ) → (b ≡ 0 → ⊥) → a ≤ 18446744073709551615 / b → a * b < 2 ^ 64
 fits a b z h = omega (arith, times-le a b 18446744073709551615 z h)

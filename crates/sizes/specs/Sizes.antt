@@ -4,8 +4,8 @@
 use Prim.Native.Nat.{ℕ}
 use Rattle.format.specs.Answer.{Answer}
 use Rattle.format.specs.Refusals.{refusalNumber}
-use Rattle.node.specs.declared.sizes.Size.{Size}
-use Rattle.node.specs.declared.sizes.Size.the-variants.{Is, Refused}
+use Rattle.sizes.specs.declared.Size.{Size}
+use Rattle.sizes.specs.declared.Size.the-variants.{Is, Refused}
 
 -- The size, or the number of the refusal.
 abbrev pub sizeAnswer : Size → Answer ℕ

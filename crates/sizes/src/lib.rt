@@ -2,9 +2,9 @@
 // with 19 where it is below zero or does not fit 64 bits. What they mean: format's
 // specs/Sizes.antt, and `sizeAnswer` of specs/Sizes.antt.
 ghost use mathlib.Core.Path.{_≡_};
-ghost use Prim.Native.Nat.{_+_, _*_, min};
+ghost use Prim.Native.Nat.{_+_, _*_, _/_, _^_, _<_, min};
 ghost use Rattle.format.specs.Sizes.{difference, bodySize, wholeFromStored, storedFromWhole};
-ghost use Rattle.node.specs.Sizes.{sizeAnswer};
+ghost use Rattle.sizes.specs.Sizes.{sizeAnswer};
 use format::refusal::Refusal;
 
 // What a size formula answers: the size, or 19.
@@ -48,13 +48,19 @@ fn total(a: u64, b: u64, c: u64) -> Size
     Size::Is(a + b + c)
 }
 
+// The bytes of a + b bits; the sum itself need not fit.
+fn bytes_for(a: u64, b: u64) -> u64
+    ensures answer { λ r. ⌜ r ≡ (a + b + 7) / 8 ⌝ }
+{
+    a / 8 + b / 8 + (a % 8 + b % 8 + 7) / 8
+}
+
 // Body bytes: six for each of n entries, and the bits of prefix and stored separators rounded up to
 // bytes. Refused with 19 past 64 bits.
 pub fn body_size(prefix_len: u64, total_separator_lengths: u64, n: u64) -> Size
     ensures answer { λ r. ⌜ sizeAnswer r ≡ bodySize «prefix_len» «total_separator_lengths» n ⌝ }
 {
-    let whole = prefix_len / 8 + total_separator_lengths / 8;
-    let bytes = whole + (prefix_len % 8 + total_separator_lengths % 8 + 7) / 8;
+    let bytes = bytes_for(prefix_len, total_separator_lengths);
     if MAX / 6 < n {
         return Size::Refused(Refusal::Unrepresentable);
     }
@@ -88,6 +94,24 @@ pub fn uncompressed_separator_range_size(
     }
 }
 
+// head + others, less so many times q.
+fn reduced(head: u64, others: u64, times: u64, q: u64) -> Size
+    requires { ⌜ (q ≡ 0 → ⊥) × (head + q < 2 ^ 64) ⌝ }
+    ensures answer { λ r. ⌜ sizeAnswer r ≡ difference (head + others) (times * q) ⌝ }
+{
+    // How often q goes into the others by themselves.
+    let whole = others / q;
+    if times <= whole {
+        return total(head, others - times * q, 0);
+    }
+    let more = times - whole;
+    let have = head + others % q;
+    if have / q < more {
+        return Size::Refused(Refusal::Unrepresentable);
+    }
+    Size::Is(have - more * q)
+}
+
 // Stored lengths from whole ones: the first loses prefix_len bits, or all it has, and each of the
 // other compressed items prefix_len. Refused with 19 for no items, below zero and past 64 bits.
 pub fn compressed_separator_range_size(
@@ -107,19 +131,10 @@ pub fn compressed_separator_range_size(
     if prefix_len == 0 {
         return total(head, pre_compression_size_sum, 0);
     }
-    // How often the prefix goes into the others' lengths by themselves.
-    let whole = pre_compression_size_sum / prefix_len;
-    if prefix_compressed_items - 1 <= whole {
-        return total(
-            head,
-            pre_compression_size_sum - (prefix_compressed_items - 1) * prefix_len,
-            0,
-        );
-    }
-    let more = prefix_compressed_items - 1 - whole;
-    let have = head + pre_compression_size_sum % prefix_len;
-    if have / prefix_len < more {
-        return Size::Refused(Refusal::Unrepresentable);
-    }
-    Size::Is(have - more * prefix_len)
+    reduced(
+        head,
+        pre_compression_size_sum,
+        prefix_compressed_items - 1,
+        prefix_len,
+    )
 }

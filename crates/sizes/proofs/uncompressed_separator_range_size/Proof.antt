@@ -1,4 +1,4 @@
--- `node::sizes::uncompressed_separator_range_size` meets its contract: for n of at least 1 the result is the sum of
+-- `sizes::uncompressed_separator_range_size` meets its contract: for n of at least 1 the result is the sum of
 -- three parts, q (n - 1) and what the first keeps of q among them; for n = 0 it is a difference.
 -- Assumes nothing.
 use mathlib.Core.Path.{_≡_, refl, sym, ap, _∙_}
@@ -9,13 +9,13 @@ use Rattle.format.specs.Answer.{Answer}
 use Rattle.format.specs.Refusals.{refusalNumber}
 use Rattle.format.specs.Sizes.{difference, wholeFromStored}
 use Rattle.format.specs.declared.refusal.Refusal.{Refusal}
-use Rattle.node.specs.declared.sizes.Size.{Size}
-use Rattle.node.specs.declared.sizes.Size.the-variants.{Is, Refused}
-use Rattle.node.specs.Sizes.{sizeAnswer}
-use Rattle.node.proofs.SizesLaws.{diff-is, diff-low, diff-high, diff-same}
+use Rattle.sizes.specs.declared.Size.{Size}
+use Rattle.sizes.specs.declared.Size.the-variants.{Is, Refused}
+use Rattle.sizes.specs.Sizes.{sizeAnswer}
+use Rattle.sizes.proofs.SizesLaws.{diff-is, diff-low, diff-high, diff-same}
 use borrow.Author.Needs.{needs}
-use Rattle.node.proofs.sizes.uncompressed_separator_range_size.Statement.{statement}
-use Rattle.node.proofs.sizes.uncompressed_separator_range_size.Tie as tie
+use Rattle.sizes.proofs.uncompressed_separator_range_size.Statement.{statement}
+use Rattle.sizes.proofs.uncompressed_separator_range_size.Tie as tie
 
 -- what an answer tells of a sum
 exact : (a p : ℕ) → Answer.Value p ≡ difference a 0 → p ≡ a

@@ -1,14 +1,14 @@
--- `node::sizes::total` meets its contract: what is left of 64 bits is compared with the next part.
+-- `sizes::total` meets its contract: what is left of 64 bits is compared with the next part.
 -- Assumes nothing.
 use mathlib.Core.Path.{_≡_}
 use Prim.Native.Nat.{ℕ, _+_, _-_, _^_, _≤_, _<_}
 use native.Mathlib.Omega.{arith}
 use Rattle.format.specs.Answer.{Answer}
 use Rattle.format.specs.Sizes.{difference}
-use Rattle.node.proofs.SizesLaws.{diff-is, diff-high}
+use Rattle.sizes.proofs.SizesLaws.{diff-is, diff-high}
 use borrow.Author.Needs.{needs}
-use Rattle.node.proofs.sizes.total.Statement.{statement}
-use Rattle.node.proofs.sizes.total.Tie as tie
+use Rattle.sizes.proofs.total.Statement.{statement}
+use Rattle.sizes.proofs.total.Tie as tie
 
 module _ (a b c : ℕ) (l : a < 2 ^ 64) where
   past-two : 18446744073709551615 - a < b → Answer.Refused 19 ≡ difference (a + b + c) 0
