@@ -180,10 +180,10 @@ fn unrisen(i: usize, before: Key, key: Key, found: bool) -> bool
     if i == 0 {
         return found;
     }
-    if before.less(key) {
-        return found;
+    if !before.less(key) {
+        return true;
     }
-    true
+    found
 }
 
 // Refusals 1 to 5, or the header.

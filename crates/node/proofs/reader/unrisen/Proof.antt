@@ -17,11 +17,11 @@ module _ (i : ℕ) (k l : Key) (f : Bool) where
   first e = sym (ap (λ (x : Bool). cond x f (not (below (keyBits k) (keyBits l)) || f)) (eq-eqb i 0 e))
 
   module _ (r : Bool) (z : i ≡ 0 → ⊥) (er : r ≡ below (keyBits k) (keyBits l)) where
-    above : r ≡ true → f ≡ cond (eqb i 0) f (not (below (keyBits k) (keyBits l)) || f)
-    above e = sym (ap₂ (λ (x y : Bool). cond x f (not y || f)) (ne-eqb i 0 z) (sym er ∙ e))
+    not-above : not r ≡ true → true ≡ cond (eqb i 0) f (not (below (keyBits k) (keyBits l)) || f)
+    not-above e = sym (ap₂ (λ (x y : Bool). cond x f (y || f)) (ne-eqb i 0 z) (sym (ap not er) ∙ e))
 
-    not-above : r ≡ false → true ≡ cond (eqb i 0) f (not (below (keyBits k) (keyBits l)) || f)
-    not-above e = sym (ap₂ (λ (x y : Bool). cond x f (not y || f)) (ne-eqb i 0 z) (sym er ∙ e))
+    above : not r ≡ false → f ≡ cond (eqb i 0) f (not (below (keyBits k) (keyBits l)) || f)
+    above e = sym (ap₂ (λ (x y : Bool). cond x f (y || f)) (ne-eqb i 0 z) (sym (ap not er) ∙ e))
 
 ruleset laws = (first, above, not-above)
 
