@@ -124,24 +124,24 @@ unfolding entries
 areKeys-entries p = areKeys-each p (count p) (λ i. i)
 
 module _ (p t : List ℕ) where
-  -- the first refusal that holds is known
-  loaded-at : (r : ℕ) → pageRefusal p ≡ r → loaded p t ≡ cond (eqb r 0 || eqb r 8) (withRows t 0 (entries p)) t
-  unfolding loaded
-  loaded-at r e = ap (λ (n : ℕ). cond (eqb n 0 || eqb n 8) (withRows t 0 (entries p)) t) e
-
   pub loaded-refused : (r : ℕ) → Answer.Refused r ≡ checkPage p → (r ≡ 8 → ⊥) → loaded p t ≡ t
+  unfolding loaded
   loaded-refused r e h =
       let q : (pageRefusal p ≡ r) × (0 < r) = checked-refused p r e in
-      let z : r ≡ 0 → ⊥ = λ y. omega (arith, q .1) in
-      loaded-at r (q .0)
-      ∙ ap (λ (b : Bool). cond b (withRows t 0 (entries p)) t)
-      (or-false (eqb r 0) (eqb r 8) (ne-eqb r 0 z) (ne-eqb r 8 h))
+      let x : pageRefusal p ≡ 0 → ⊥ = λ z. omega (arith, q .0, q .1, z) in
+      let y : pageRefusal p ≡ 8 → ⊥ = λ z. h (sym (q .0) ∙ z) in
+      ap (λ (b : Bool). cond b (withRows t 0 (entries p)) t)
+      (or-false (eqb (pageRefusal p) 0) (eqb (pageRefusal p) 8) (ne-eqb (pageRefusal p) 0 x) (ne-eqb (pageRefusal p) 8 y))
 
   pub loaded-unordered : Answer.Refused 8 ≡ checkPage p → loaded p t ≡ withRows t 0 (entries p)
-  loaded-unordered e = loaded-at 8 (checked-refused p 8 e .0)
+  unfolding loaded
+  loaded-unordered e =
+      ap (λ (n : ℕ). cond (eqb n 0 || eqb n 8) (withRows t 0 (entries p)) t) (checked-refused p 8 e .0)
 
   pub loaded-accepted : (h : Header) → Answer.Value h ≡ checkPage p → loaded p t ≡ withRows t 0 (entries p)
-  loaded-accepted h e = loaded-at 0 (checked-accepted p h e)
+  unfolding loaded
+  loaded-accepted h e =
+      ap (λ (n : ℕ). cond (eqb n 0 || eqb n 8) (withRows t 0 (entries p)) t) (checked-accepted p h e)
 
   pub length-loaded : length (loaded p t) ≡ length t
   unfolding loaded
