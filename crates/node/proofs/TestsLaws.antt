@@ -246,7 +246,7 @@ module _ (p : List ℕ) (n : ℕ) (size : length p ≡ 4096) (en : n ≡ unle (t
                 bits-is = ap₂ _+_ prefix-is (sym last-is);
                 entry = omega (arith, z);
                 compresses = omega (arith, y);
-                no-more = no-more;
+                no-more = omega (arith, no-more);
                 prefix = prefix;
                 entries-fit = omega arith;
                 fits = omega (arith, body-is);
