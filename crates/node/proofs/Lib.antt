@@ -1,4 +1,4 @@
 -- The laws that the proofs of this crate share, and those that other crates cite. Read in this order.
-pub mod SizesLaws
+pub mod KeyLaws
 pub mod TestsLaws
 pub mod LoadedLaws

@@ -2,17 +2,21 @@
 -- In order: a header that was answered; a refusal; rows that are filled one behind the other; the table after a page
 -- was loaded.
 -- Assumes nothing.
+use mathlib.Core.Bool.{Bool, true, false, cond, _||_}
 use mathlib.Core.List.{List}
 use mathlib.Core.Path.{_≡_, refl, sym, ap, ap₂, subst, _∙_}
 use Prim.Native.Nat.{ℕ, zero, suc, _+_, _*_, _/_, _≤_, _<_}
 use native.Mathlib.Numerals.{add-one}
 use native.Mathlib.Omega.{arith}
+use borrow.Author.Tests.{ne-eqb}
+use lib.Dec.{eqb}
 use lib.ListN.{length}
-use Rattle.format.specs.Answer.{Answer, afterwards, unless}
+use Rattle.format.specs.Answer.{Answer, unless}
 use Rattle.format.specs.Key.{IsKey}
 use Rattle.format.specs.Normal.{keys}
 use Rattle.format.specs.Page.{Entry, Header, checkPage, count, each, entries, entryOf, headerOf, keyOf, pageRefusal}
 use Rattle.facts.proofs.AcceptedLaws.{Accepted, accepted-pageRefusal}
+use Rattle.facts.proofs.AnswerLaws.{or-false}
 use Rattle.facts.proofs.EntryLaws.{AreKeys, length-each}
 use Rattle.facts.proofs.PageLaws.{keyOf-key, length-entries}
 use Rattle.rows.specs.Rows.{rowSource, rows, withRow, withRows}
@@ -120,21 +124,32 @@ unfolding entries
 areKeys-entries p = areKeys-each p (count p) (λ i. i)
 
 module _ (p t : List ℕ) where
-  pub loaded-refused : (r : ℕ) → Answer.Refused r ≡ checkPage p → loaded p t ≡ t
-  unfolding loaded afterwards
-  loaded-refused r e = ap (λ (a : Answer Header). afterwards a (λ h. withRows t 0 (entries p)) t) (sym e)
+  pub loaded-refused : (r : ℕ) → Answer.Refused r ≡ checkPage p → (r ≡ 8 → ⊥) → loaded p t ≡ t
+  unfolding loaded
+  loaded-refused r e h =
+      let q : (pageRefusal p ≡ r) × (0 < r) = checked-refused p r e in
+      let x : pageRefusal p ≡ 0 → ⊥ = λ z. omega (arith, q .0, q .1, z) in
+      let y : pageRefusal p ≡ 8 → ⊥ = λ z. h (sym (q .0) ∙ z) in
+      ap (λ (b : Bool). cond b (withRows t 0 (entries p)) t)
+      (or-false (eqb (pageRefusal p) 0) (eqb (pageRefusal p) 8) (ne-eqb (pageRefusal p) 0 x) (ne-eqb (pageRefusal p) 8 y))
+
+  pub loaded-unordered : Answer.Refused 8 ≡ checkPage p → loaded p t ≡ withRows t 0 (entries p)
+  unfolding loaded
+  loaded-unordered e =
+      ap (λ (n : ℕ). cond (eqb n 0 || eqb n 8) (withRows t 0 (entries p)) t) (checked-refused p 8 e .0)
 
   pub loaded-accepted : (h : Header) → Answer.Value h ≡ checkPage p → loaded p t ≡ withRows t 0 (entries p)
-  unfolding loaded afterwards
-  loaded-accepted h e = ap (λ (a : Answer Header). afterwards a (λ x. withRows t 0 (entries p)) t) (sym e)
+  unfolding loaded
+  loaded-accepted h e =
+      ap (λ (n : ℕ). cond (eqb n 0 || eqb n 8) (withRows t 0 (entries p)) t) (checked-accepted p h e)
 
   pub length-loaded : length (loaded p t) ≡ length t
-  unfolding loaded afterwards
-  length-loaded = go (checkPage p) refl
+  unfolding loaded
+  length-loaded = go (eqb (pageRefusal p) 0 || eqb (pageRefusal p) 8)
     where
-      go : (a : Answer Header) → checkPage p ≡ a → length (loaded p t) ≡ length t
-      go (Answer.Refused r) e = ap length (loaded-refused r (sym e))
-      go (Answer.Value h) e = ap length (loaded-accepted h (sym e)) ∙ length-withRows t 0 (entries p)
+      go : (b : Bool) → length (cond b (withRows t 0 (entries p)) t) ≡ length t
+      go true = length-withRows t 0 (entries p)
+      go false = refl
 
   -- a table with a row for each entry holds the page's entries
   module _ (h : Header) (e : Answer.Value h ≡ checkPage p) (room : count p ≤ length t / 6) where

@@ -32,18 +32,18 @@ use Rattle.format.specs.Page.{
   prefixLength,
   startOf,
 }
-use Rattle.facts.proofs.AnswerLaws.{or-false, some-false, some-false-at}
+use Rattle.facts.proofs.AnswerLaws.{or-false}
 use Rattle.facts.proofs.PageLaws.{startOf-zero, startOf-suc}
 use Rattle.rows.specs.declared.key.Key.{Key}
 use Rattle.rows.specs.Keys.{keyBits}
 use Rattle.node.specs.declared.reader.Header.{Header as Numbers}
-use Rattle.node.specs.Reader.{ShapeFits, SizesFit, falling, headerMeant, misfit, unordered}
+use Rattle.node.specs.Reader.{Early, ShapeFits, SizesFit, falling, headerMeant, misfit, unordered}
 
 -- ---- some
 
-pub some-more : (n : ℕ) (f : ℕ → Bool) → f n ≡ false → some n f ≡ false → some (n + 1) f ≡ false
+pub some-more : (n : ℕ) (f : ℕ → Bool) → some (n + 1) f ≡ f n || some n f
 unfolding some
-some-more n f e s = ap (λ (k : ℕ). some k f) (add-one n) ∙ or-false (f n) (some n f) e s
+some-more n f = ap (λ (k : ℕ). some k f) (add-one n)
 
 pub or-true : (a b : Bool) → b ≡ true → a || b ≡ true
 or-true true b e = refl
@@ -59,11 +59,6 @@ some-at (suc n) f i h e =
     (λ (l : i < n). or-true (f n) (some n f) (some-at n f i l e))
     (eq-or-lt-of-le (le-of-suc-le-suc h))
 
-pub some-same : (n : ℕ) (f g : ℕ → Bool) → ((i : ℕ) → i < n → f i ≡ g i) → some n f ≡ some n g
-unfolding some
-some-same zero f g e = refl
-some-same (suc n) f g e = ap₂ _||_ (e n (omega arith)) (some-same n f g (λ i l. e i (omega arith)))
-
 -- ---- where separators start
 
 pub start-first : (p : List ℕ) → 0 ≡ startOf p 0
@@ -74,53 +69,30 @@ start-next p i e q = q ∙ sym (ap (startOf p) (add-one i) ∙ startOf-suc p i)
 
 -- ---- keys that rise
 
--- the first i of the keys f 0, f 1, .. rise, and k is the last of them
-pub record Rising (f : ℕ → List ℕ) (i : ℕ) (k : Key) : Type 0 where
-  pub none : unordered f i ≡ false
-  pub last : keyBits k ≡ f (i - 1)
-  pub some-key : 1 ≤ i
+-- b tells whether one of the first i of the keys f 0, f 1, .. is not above the one before, and k is the last of them
+pub record Rising (f : ℕ → List ℕ) (i : ℕ) (k : Key) (b : Bool) : Type 0 where
+  pub found : b ≡ unordered f i
+  pub last : 1 ≤ i → keyBits k ≡ f (i - 1)
 
-pub rising-first : (f : ℕ → List ℕ) (k : Key) → keyBits k ≡ f 0 → Rising f 1 k
+pub rising-none : (f : ℕ → List ℕ) (k : Key) → Rising f 0 k false
 unfolding unordered some
-rising-first f k e = record { none = refl; last = e; some-key = omega arith }
+rising-none f k = record { found = refl; last = λ l. absurd (not-suc-le-zero l) }
 
--- the next key, by whether it is above the last
-module _ (f : ℕ → List ℕ) (i : ℕ) (k l : Key) (r : Bool) (so : Rising f i k) (e : keyBits l ≡ f i)
-    (er : r ≡ below (keyBits k) (keyBits l)) where
-  next : not (below (f (i - 1)) (f (suc (i - 1)))) ≡ not r
-  next =
-      let s : suc (i - 1) ≡ i = omega (arith, so .some-key) in
-      ap not (ap₂ below (sym (so .last)) (ap f s ∙ sym e) ∙ sym er)
-
-  pub rising-more : not r ≡ false → Rising f (i + 1) l
-  unfolding unordered
-  rising-more z =
-      let s : (i + 1) - 1 ≡ (i - 1) + 1 = omega (arith, so .some-key) in
-      let t : i ≡ (i + 1) - 1 = omega arith in
-      record {
-        none =
-            ap (λ (n : ℕ). some n (λ j. not (below (f j) (f (suc j))))) s
-            ∙ some-more (i - 1) (λ j. not (below (f j) (f (suc j)))) (next ∙ z) (so .none);
-        last = e ∙ ap f t;
-        some-key = omega arith;
-      }
-
-  pub rising-stop : (n : ℕ) → i < n → not r ≡ true → true ≡ unordered f n
-  unfolding unordered
-  rising-stop n h z =
-      sym (some-at (n - 1) (λ j. not (below (f j) (f (suc j)))) (i - 1) (omega (arith, so .some-key)) (next ∙ z))
-
-pub rising-all : (f : ℕ → List ℕ) (n i : ℕ) (k : Key) → Rising f i k → n ≤ i → false ≡ unordered f n
-unfolding unordered
-rising-all f n i k so h =
-    sym (some-false (n - 1) (λ j. not (below (f j) (f (suc j))))
-    (λ j l. some-false-at (i - 1) (λ m. not (below (f m) (f (suc m)))) j (so .none) (omega arith)))
-
-pub unordered-same : (f g : ℕ → List ℕ) (n : ℕ) → ((i : ℕ) → i < n → f i ≡ g i) → unordered f n ≡ unordered g n
-unfolding unordered
-unordered-same f g n e =
-    some-same (n - 1) (λ i. not (below (f i) (f (suc i)))) (λ i. not (below (g i) (g (suc i))))
-    (λ i l. ap not (ap₂ below (e i (omega arith)) (e (suc i) (omega arith))))
+pub rising-more : (f : ℕ → List ℕ) (i : ℕ) (k l : Key) (b r : Bool) → Rising f i k b → keyBits l ≡ f i
+    → r ≡ cond (eqb i 0) b (not (below (keyBits k) (keyBits l)) || b) → Rising f (i + 1) l r
+unfolding unordered some
+rising-more f zero k l b r so e er = record { found = er ∙ so .found; last = λ z. e }
+rising-more f (suc j) k l b r so e er =
+    let s : (suc j + 1) - 1 ≡ suc j = omega arith in
+    let t : suc j - 1 ≡ j = omega arith in
+    record {
+      found =
+          er ∙ ap (λ (x : Bool). cond x b (not (below (keyBits k) (keyBits l)) || b)) (ne-eqb (suc j) 0 (λ z. omega arith))
+          ∙ ap₂ (λ (x y : Bool). not x || y) (ap₂ below (so .last (omega arith) ∙ ap f t) e)
+          (so .found ∙ ap (λ (n : ℕ). some n (λ i. not (below (f i) (f (suc i))))) t)
+          ∙ sym (ap (λ (n : ℕ). some n (λ i. not (below (f i) (f (suc i))))) s);
+      last = λ z. e ∙ ap f (sym s);
+    }
 
 -- ---- the tests, one behind the other
 
@@ -162,15 +134,18 @@ passes : (t : Bool) (a b : ℕ) → t ≡ false → cond t a b ≡ b
 passes t a b e = ap (λ (x : Bool). cond x a b) e
 
 -- a number that is not 0 is answered
-refused : (p : List ℕ) (r : ℕ) → pageRefusal p ≡ suc r → Answer.Refused (suc r) ≡ checkPage p
+answers : (p : List ℕ) (r : ℕ) → pageRefusal p ≡ suc r → Answer.Refused (suc r) ≡ checkPage p
 unfolding checkPage unless
-refused p r e = sym (ap (λ (n : ℕ). unless n (headerOf p)) e)
+answers p r e = sym (ap (λ (n : ℕ). unless n (headerOf p)) e)
+
+refused : (p : List ℕ) (r : ℕ) → suc r < 8 → pageRefusal p ≡ suc r → Early p (suc r)
+refused p r l e = record { answered = answers p r e; early = l }
 
 -- ---- refusals 1 to 5
 
-pub refuse-1 : (p : List ℕ) → (length p ≡ 4096 → ⊥) → Answer.Refused 1 ≡ checkPage p
+pub refuse-1 : (p : List ℕ) → (length p ≡ 4096 → ⊥) → Early p 1
 refuse-1 p h =
-    refused p 0 (in-order p ∙ holds (not (eqb (length p) 4096)) 1 (after1 p) (ap not (ne-eqb (length p) 4096 h)))
+    refused p 0 (omega arith) (in-order p ∙ holds (not (eqb (length p) 4096)) 1 (after1 p) (ap not (ne-eqb (length p) 4096 h)))
 
 module _ (p : List ℕ) (n : ℕ) (size : length p ≡ 4096) (en : n ≡ unle (take 2 (drop 4 p))) where
   count-is : n ≡ count p
@@ -180,8 +155,8 @@ module _ (p : List ℕ) (n : ℕ) (size : length p ≡ 4096) (en : n ≡ unle (t
   pass-1 : pageRefusal p ≡ after1 p
   pass-1 = in-order p ∙ passes (not (eqb (length p) 4096)) 1 (after1 p) (ap not (eq-eqb (length p) 4096 size))
 
-  pub refuse-2 : n ≡ 0 → Answer.Refused 2 ≡ checkPage p
-  refuse-2 z = refused p 1 (pass-1 ∙ holds (eqb (count p) 0) 2 (after2 p) (eq-eqb (count p) 0 (sym count-is ∙ z)))
+  pub refuse-2 : n ≡ 0 → Early p 2
+  refuse-2 z = refused p 1 (omega arith) (pass-1 ∙ holds (eqb (count p) 0) 2 (after2 p) (eq-eqb (count p) 0 (sym count-is ∙ z)))
 
   module _ (m : ℕ) (some-entry : n ≡ 0 → ⊥) (em : m ≡ unle (take 2 (drop 6 p))) where
     compressed-is : m ≡ compressed p
@@ -191,15 +166,15 @@ module _ (p : List ℕ) (n : ℕ) (size : length p ≡ 4096) (en : n ≡ unle (t
     pass-2 : pageRefusal p ≡ after2 p
     pass-2 = pass-1 ∙ passes (eqb (count p) 0) 2 (after2 p) (ne-eqb (count p) 0 (λ z. some-entry (count-is ∙ z)))
 
-    refuse-3 : test3 p ≡ true → Answer.Refused 3 ≡ checkPage p
-    refuse-3 t = refused p 2 (pass-2 ∙ holds (test3 p) 3 (after3 p) t)
+    refuse-3 : test3 p ≡ true → Early p 3
+    refuse-3 t = refused p 2 (omega arith) (pass-2 ∙ holds (test3 p) 3 (after3 p) t)
 
-    pub refuse-3-none : m ≡ 0 → Answer.Refused 3 ≡ checkPage p
+    pub refuse-3-none : m ≡ 0 → Early p 3
     refuse-3-none z =
         refuse-3
         (ap (λ (b : Bool). b || ltb (count p) (compressed p)) (eq-eqb (compressed p) 0 (sym compressed-is ∙ z)))
 
-    pub refuse-3-more : n < m → Answer.Refused 3 ≡ checkPage p
+    pub refuse-3-more : n < m → Early p 3
     refuse-3-more l =
         let k : count p < compressed p = omega (arith, count-is, compressed-is) in
         refuse-3 (or-true (eqb (compressed p) 0) (ltb (count p) (compressed p)) (lt-ltb (count p) (compressed p) k))
@@ -216,9 +191,9 @@ module _ (p : List ℕ) (n : ℕ) (size : length p ≡ 4096) (en : n ≡ unle (t
           (or-false (eqb (compressed p) 0) (ltb (count p) (compressed p))
           (ne-eqb (compressed p) 0 (λ z. some-compressed (compressed-is ∙ z))) (le-ltb (count p) (compressed p) k))
 
-      pub refuse-4 : 256 < q → Answer.Refused 4 ≡ checkPage p
+      pub refuse-4 : 256 < q → Early p 4
       refuse-4 l =
-          refused p 3 (pass-3 ∙ holds (ltb 256 (prefixLength p)) 4 (after4 p)
+          refused p 3 (omega arith) (pass-3 ∙ holds (ltb 256 (prefixLength p)) 4 (after4 p)
           (lt-ltb 256 (prefixLength p) (omega (arith, prefix-is))))
 
       module _ (prefix : q ≤ 256) where
@@ -227,10 +202,10 @@ module _ (p : List ℕ) (n : ℕ) (size : length p ≡ 4096) (en : n ≡ unle (t
             pass-3 ∙ passes (ltb 256 (prefixLength p)) 4 (after4 p)
             (le-ltb 256 (prefixLength p) (omega (arith, prefix-is)))
 
-        refuse-5 : test5 p ≡ true → Answer.Refused 5 ≡ checkPage p
-        refuse-5 t = refused p 4 (pass-4 ∙ holds (test5 p) 5 (after5 p) t)
+        refuse-5 : test5 p ≡ true → Early p 5
+        refuse-5 t = refused p 4 (omega arith) (pass-4 ∙ holds (test5 p) 5 (after5 p) t)
 
-        pub refuse-5-many : 4086 < 6 * n → Answer.Refused 5 ≡ checkPage p
+        pub refuse-5-many : 4086 < 6 * n → Early p 5
         refuse-5-many l =
             let k : 4086 < 6 * count p = omega (arith, count-is) in
             refuse-5 (ap (λ (b : Bool). b || ltb 4086 (bodyBytes (count p) (prefixLength p) (startOf p (count p))))
@@ -248,7 +223,7 @@ module _ (p : List ℕ) (n : ℕ) (size : length p ≡ 4096) (en : n ≡ unle (t
           unfolding bodyBytes bytesFor
           body-is = ap₂ (λ (a b : ℕ). 6 * a + (b + 7) / 8) (sym count-is) (ap₂ _+_ (sym prefix-is) last-is)
 
-          pub refuse-5-body : 4086 < 6 * n + ((q + e) + 7) / 8 → Answer.Refused 5 ≡ checkPage p
+          pub refuse-5-body : 4086 < 6 * n + ((q + e) + 7) / 8 → Early p 5
           refuse-5-body l =
               let k : 4086 < bodyBytes (count p) (prefixLength p) (startOf p (count p)) = omega (arith, body-is) in
               refuse-5
@@ -271,7 +246,7 @@ module _ (p : List ℕ) (n : ℕ) (size : length p ≡ 4096) (en : n ≡ unle (t
                 bits-is = ap₂ _+_ prefix-is (sym last-is);
                 entry = omega (arith, z);
                 compresses = omega (arith, y);
-                no-more = no-more;
+                no-more = omega (arith, no-more);
                 prefix = prefix;
                 entries-fit = omega arith;
                 fits = omega (arith, body-is);
@@ -298,22 +273,18 @@ module _ (p : List ℕ) (h : Numbers) (f : SizesFit p h) where
       (le-ltb 4086 (6 * count p) c5)
       (le-ltb 4086 (bodyBytes (count p) (prefixLength p) (startOf p (count p))) (f .fits)))
 
-  pub refuse-6 : (r : Bool) → r ≡ falling p (h .n) → r ≡ true → Answer.Refused 6 ≡ checkPage p
-  refuse-6 r e t =
-      refused p 5 (pass-5 ∙ holds (falling p (count p)) 6 (after6 p) (ap (falling p) (sym (f .n-is)) ∙ sym e ∙ t))
+  pub refuse-6 : falling p (h .n) ≡ true → Early p 6
+  refuse-6 e =
+      refused p 5 (omega arith)
+      (pass-5 ∙ holds (falling p (count p)) 6 (after6 p) (ap (falling p) (sym (f .n-is)) ∙ e))
 
   pass-6 : falling p (h .n) ≡ false → pageRefusal p ≡ after6 p
   pass-6 e = pass-5 ∙ passes (falling p (count p)) 6 (after6 p) (ap (falling p) (sym (f .n-is)) ∙ e)
 
-  pub refuse-7 : (r6 : Bool) → r6 ≡ falling p (h .n) → r6 ≡ false → (r : Bool) → r ≡ misfit p (h .n) → r ≡ true
-      → Answer.Refused 7 ≡ checkPage p
-  refuse-7 r6 e6 t6 r e t =
-      refused p 6
-      (pass-6 (sym e6 ∙ t6) ∙ holds (misfit p (count p)) 7 (after7 p) (ap (misfit p) (sym (f .n-is)) ∙ sym e ∙ t))
-
-  pub shape-fits : (r6 : Bool) → r6 ≡ falling p (h .n) → r6 ≡ false → (r7 : Bool) → r7 ≡ misfit p (h .n) → r7 ≡ false
-      → ShapeFits p h
-  shape-fits r6 e6 t6 r7 e7 t7 = record { sizes = f; none-falls = sym e6 ∙ t6; none-misfits = sym e7 ∙ t7 }
+  pub refuse-7 : falling p (h .n) ≡ false → misfit p (h .n) ≡ true → Early p 7
+  refuse-7 e6 e =
+      refused p 6 (omega arith)
+      (pass-6 e6 ∙ holds (misfit p (count p)) 7 (after7 p) (ap (misfit p) (sym (f .n-is)) ∙ e))
 
 module _ (p : List ℕ) (h : Numbers) (f : ShapeFits p h) where
   pass-7 : pageRefusal p ≡ after7 p
@@ -323,7 +294,7 @@ module _ (p : List ℕ) (h : Numbers) (f : ShapeFits p h) where
 
   pub refuse-8 : unordered (keyOf p) (h .n) ≡ true → Answer.Refused 8 ≡ checkPage p
   refuse-8 e =
-      refused p 7
+      answers p 7
       (pass-7 ∙ holds (unordered (keyOf p) (count p)) 8 0 (ap (unordered (keyOf p)) (sym (f .sizes .n-is)) ∙ e))
 
   pub accept : unordered (keyOf p) (h .n) ≡ false → Answer.Value (headerMeant h) ≡ checkPage p

@@ -1,3 +1,2 @@
--- What the contracts of `node` cite, as definitions. Read in this order.
-pub mod Sizes
+-- What the contracts of `node` cite, as definitions.
 pub mod Reader

@@ -1,15 +1,15 @@
 -- What the checking reader answers and writes, and what its parts tell each other. Document 01, "The page", and the
 -- refusals 1 to 8 and 16.
--- In order: headerMeant checkedAnswer · entryAnswer pointerRead keyBytes · loaded · falling misfit unordered ·
+-- In order: headerMeant checkedAnswer · entryAnswer pointerRead keyBytes · loaded · falling misfit unordered · Early
 -- SizesFit Sizing ShapeFits Shaping.
 -- Assumes nothing.
 use mathlib.Core.Path.{_≡_}
-use Prim.Native.Nat.{ℕ, suc, _+_, _-_, _*_, _≤_}
-use mathlib.Core.Bool.{Bool, false, _||_, not}
+use Prim.Native.Nat.{ℕ, suc, _+_, _-_, _*_, _≤_, _<_}
+use mathlib.Core.Bool.{Bool, false, _||_, cond, not}
 use mathlib.Core.List.{List}
 use lib.Dec.{eqb, ltb}
 use lib.ListN.{length}
-use Rattle.format.specs.Answer.{Answer, some, afterwards}
+use Rattle.format.specs.Answer.{Answer, some}
 use Rattle.format.specs.Bits.{pack}
 use Rattle.format.specs.Key.{below}
 use Rattle.format.specs.Page.{
@@ -25,6 +25,7 @@ use Rattle.format.specs.Page.{
   prefixLength,
   bodyBytes,
   checkPage,
+  pageRefusal,
 }
 use Rattle.format.specs.Refusals.{refusalNumber}
 use Rattle.rows.specs.Rows.{withRows}
@@ -58,11 +59,11 @@ unfoldable pub keyBytes : Entry → List ℕ
 unfolding pack
 keyBytes e = pack 32 (e .key)
 
--- A table after a page was loaded: the page's entries in its first rows, each with its position, as far as it has
--- rows; after a refusal, what it held before.
+-- A table after a page was loaded: where none of 1 to 7 holds, the page's entries in its first rows, each with its
+-- position, as far as it has rows; where one of them holds, what it held before.
 unfoldable pub loaded : List ℕ → List ℕ → List ℕ
-unfolding afterwards checkPage withRows entries
-loaded p t = afterwards (checkPage p) (λ h. withRows t 0 (entries p)) t
+unfolding pageRefusal withRows entries
+loaded p t = cond (eqb (pageRefusal p) 0 || eqb (pageRefusal p) 8) (withRows t 0 (entries p)) t
 
 -- Refusal 6 over the first n entries: an end offset is below the one before.
 unfoldable pub falling : List ℕ → ℕ → Bool
@@ -79,6 +80,11 @@ unfoldable pub unordered : (ℕ → List ℕ) → ℕ → Bool
 unfolding some below
 unordered f n = some (n - 1) (λ i. not (below (f i) (f (suc i))))
 
+-- A check answers r, one of 1 to 7.
+pub record Early (p : List ℕ) (r : ℕ) : Type 0 where
+  pub answered : Answer.Refused r ≡ checkPage p
+  pub early : r < 8
+
 -- Refusals 1 to 5 do not hold, and h has the numbers of the header.
 pub record SizesFit (p : List ℕ) (h : Numbers) : Type 0 where
   pub size : length p ≡ 4096
@@ -94,10 +100,10 @@ pub record SizesFit (p : List ℕ) (h : Numbers) : Type 0 where
   pub entries-fit : h .n ≤ 681
   pub fits : bodyBytes (count p) (prefixLength p) (startOf p (count p)) ≤ 4086
 
--- What the tests for 1 to 5 tell: that, or what a check answers.
+-- What the tests for 1 to 5 tell: that, or the first that holds.
 abbrev pub Sizing : List ℕ → Checked → Type 0
 Sizing p (Page h) = SizesFit p h
-Sizing p (Refused r) = checkedAnswer (Refused r) ≡ checkPage p
+Sizing p (Refused r) = Early p (refusalNumber r)
 
 -- Refusals 1 to 7 do not hold, and h has the numbers of the header.
 pub record ShapeFits (p : List ℕ) (h : Numbers) : Type 0 where
@@ -105,7 +111,7 @@ pub record ShapeFits (p : List ℕ) (h : Numbers) : Type 0 where
   pub none-falls : falling p (h .n) ≡ false
   pub none-misfits : misfit p (h .n) ≡ false
 
--- What the tests for 1 to 7 tell: that, or what a check answers.
+-- What the tests for 1 to 7 tell: that, or the first that holds.
 abbrev pub Shaping : List ℕ → Checked → Type 0
 Shaping p (Page h) = ShapeFits p h
-Shaping p (Refused r) = checkedAnswer (Refused r) ≡ checkPage p
+Shaping p (Refused r) = Early p (refusalNumber r)

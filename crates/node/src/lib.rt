@@ -1,4 +1,3 @@
-// node.rs: the size formulas, the checking reader, and a page's sizes.
+// node.rs: the checking reader, and a page's sizes.
 pub mod layout;
 pub mod reader;
-pub mod sizes;

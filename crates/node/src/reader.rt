@@ -11,12 +11,13 @@
 // separator, and zero bits up to 256. Any bytes may come: nothing is read outside the page.
 // What a page means: format's specs/Page.antt. What the answers mean: specs/Reader.antt.
 ghost use mathlib.Core.Path.{_≡_};
-ghost use mathlib.Core.Bool.{cond};
+ghost use mathlib.Core.Bool.{cond, not, _||_};
 ghost use Prim.Native.Nat.{_<_, _≤_};
-ghost use lib.Dec.{ltb};
+ghost use lib.Dec.{eqb, ltb};
 ghost use lib.ListN.{take};
 ghost use Rattle.format.specs.Answer.{afterwards};
-ghost use Rattle.format.specs.Bits.{fill};
+ghost use Rattle.format.specs.Bits.{fill, pack};
+ghost use Rattle.format.specs.Key.{below};
 ghost use Rattle.format.specs.Page.{
   body,
   checkPage,
@@ -29,17 +30,15 @@ ghost use Rattle.format.specs.Page.{
   startOf,
 };
 ghost use Rattle.rows.specs.Keys.{keyBits};
-ghost use Rattle.rows.specs.Rows.{rowKey, rows, withRows};
+ghost use Rattle.rows.specs.Rows.{withRows};
 ghost use Rattle.node.specs.Reader.{
   Shaping,
   SizesFit,
   Sizing,
   checkedAnswer,
   entryAnswer,
-  falling,
   keyBytes,
   loaded,
-  misfit,
   pointerRead,
   unordered,
 };
@@ -94,23 +93,6 @@ fn node_pointer(page: &[u8], h: Header, i: usize) -> u64
     words::le_u32(page, layout::PAGE_SIZE - 4 * h.n + 4 * i)
 }
 
-// Refusal 6: an end offset is below the one before.
-fn offsets_fall(page: &[u8], n: usize) -> bool
-    ensures answer { λ r. ⌜ r ≡ falling (now (page .entry)) n ⌝ }
-{
-    let mut before: usize = 0;
-    let mut i: usize = 0;
-    while i < n {
-        let end = cell(page, i);
-        if end < before {
-            return true;
-        }
-        before = end;
-        i += 1;
-    }
-    false
-}
-
 // How many bits of entry i are the prefix's.
 fn prefix_bits(h: Header, i: usize) -> usize
     ensures answer { λ r. ⌜ (r ≡ cond (ltb i (h .m)) (h .q) 0) × (r ≤ h .q) ⌝ }
@@ -118,27 +100,42 @@ fn prefix_bits(h: Header, i: usize) -> usize
     if i < h.m { h.q } else { 0 }
 }
 
-// Refusal 7: an entry has no bits, or more than a key.
-fn bits_misfit(page: &[u8], h: Header) -> bool
+// Whether an entry of so many bits has none, or more than a key, or one before it had.
+fn misfits(bits: usize, found: bool) -> bool
+    ensures answer { λ r. ⌜ r ≡ (eqb bits 0 || ltb 256 bits) || found ⌝ }
+{
+    if bits == 0 {
+        return true;
+    }
+    if 256 < bits {
+        return true;
+    }
+    found
+}
+
+// Refusals 6 and 7, or the header. An end offset that falls comes first, so that the pass goes on
+// where an entry does not fit.
+fn fitted(page: &[u8], h: Header) -> Checked
     requires { ⌜ SizesFit (now page) h ⌝ }
-    ensures answer { λ r. ⌜ r ≡ misfit (now (page .entry)) (h .n) ⌝ }
+    ensures answer { λ r. ⌜ Shaping (now (page .entry)) r ⌝ }
 {
     let n = h.n;
     let mut before: usize = 0;
+    let mut found = false;
     let mut i: usize = 0;
     while i < n {
         let end = cell(page, i);
-        let bits = prefix_bits(h, i) + words::over(end, before);
-        if bits == 0 {
-            return true;
+        if end < before {
+            return Checked::Refused(Refusal::OffsetsFall);
         }
-        if 256 < bits {
-            return true;
-        }
+        found = misfits(prefix_bits(h, i) + (end - before), found);
         before = end;
         i += 1;
     }
-    false
+    if found {
+        return Checked::Refused(Refusal::EntryBits);
+    }
+    Checked::Page(h)
 }
 
 // The prefix, and zeros.
@@ -163,27 +160,30 @@ fn get_key(page: &[u8], h: Header, prefix: Key, i: usize, start: usize, end: usi
     prefix.with_bits(prefix_bits(h, i), page, bit, len)
 }
 
-// Refusal 8: the keys are not strictly ascending.
-fn keys_unordered(page: &[u8], h: Header) -> bool
-    requires { ⌜ SizesFit (now page) h ⌝ }
-    ensures answer { λ r. ⌜ r ≡ unordered (keyOf (now (page .entry))) (h .n) ⌝ }
+// The same, for a loop over all entries.
+fn next_key(page: &[u8], h: Header, prefix: Key, i: usize, start: usize, end: usize) -> Key
+    requires { ⌜ SizesFit (now page) h
+        × (keyBits prefix ≡ fill 256 (take (prefixLength (now page)) (body (now page))))
+        × (start ≡ startOf (now page) i) × (start < 65536) × (end ≡ endOf (now page) i) ⌝ }
+    ensures answer { λ r. ⌜ keyBits r ≡ keyOf (now (page .entry)) i ⌝ }
 {
-    let n = h.n;
-    let shared = prefix(page, h);
-    let mut start = cell(page, 0);
-    let mut before = get_key(page, h, shared, 0, 0, start);
-    let mut i: usize = 1;
-    while i < n {
-        let end = cell(page, i);
-        let key = get_key(page, h, shared, i, start, end);
-        if !before.less(key) {
-            return true;
-        }
-        start = end;
-        before = key;
-        i += 1;
+    let len = words::over(end, start);
+    let bit = 8 * (layout::HEADER_SIZE + 2 * h.n) + h.q + start;
+    prefix.with_few_bits(prefix_bits(h, i), page, bit, len)
+}
+
+// Whether key i is not above the one before it, if there is one, or one before it was not.
+fn unrisen(i: usize, before: Key, key: Key, found: bool) -> bool
+    ensures answer { λ r. ⌜ r
+        ≡ cond (eqb i 0) found (not (below (keyBits before) (keyBits key)) || found) ⌝ }
+{
+    if i == 0 {
+        return found;
     }
-    false
+    if !before.less(key) {
+        return true;
+    }
+    found
 }
 
 // Refusals 1 to 5, or the header.
@@ -231,32 +231,74 @@ fn shaped(page: &[u8]) -> Checked
 {
     match sized(page) {
         Checked::Refused(r) => Checked::Refused(r),
+        Checked::Page(h) => fitted(page, h),
+    }
+}
+
+// All entries into the rows of a table, with their positions. Refusal 8: whether the keys are not
+// strictly ascending.
+fn load_rows(page: &[u8], h: Header, t: &mut [u64]) -> bool
+    requires { ⌜ SizesFit (now page) h ⌝ }
+    ensures answer { λ r. ⌜ r ≡ unordered (keyOf (now (page .entry))) (h .n) ⌝ }
+    ensures written { λ _. ⌜ now (t .exit)
+        ≡ withRows (now (t .entry)) 0 (entries (now (page .entry))) ⌝ }
+{
+    let n = h.n;
+    let shared = prefix(page, h);
+    let mut start: usize = 0;
+    let mut before = Key::zero();
+    let mut found = false;
+    let mut i: usize = 0;
+    while i < n {
+        let end = cell(page, i);
+        let key = next_key(page, h, shared, i, start, end);
+        table::set_row(t, i, key, node_pointer(page, h, i), i as u64);
+        found = unrisen(i, before, key, found);
+        start = end;
+        before = key;
+        i += 1;
+    }
+    found
+}
+
+// Checks a page and puts its entries into the first rows of a table, each with its position; those
+// past the table's last row are left out. Its header, or the first of 1 to 8 that holds, each tested
+// over all entries before the next. The table is as it was after 1 to 7, and after 8 it has the
+// entries.
+pub fn load_page(page: &[u8], t: &mut [u64]) -> Checked
+    ensures answer { λ r. ⌜ checkedAnswer r ≡ checkPage (now (page .entry)) ⌝ }
+    ensures written { λ _. ⌜ now (t .exit) ≡ loaded (now (page .entry)) (now (t .entry)) ⌝ }
+{
+    match shaped(page) {
+        Checked::Refused(r) => Checked::Refused(r),
         Checked::Page(h) => {
-            if offsets_fall(page, h.n) {
-                return Checked::Refused(Refusal::OffsetsFall);
-            }
-            if bits_misfit(page, h) {
-                return Checked::Refused(Refusal::EntryBits);
+            if load_rows(page, h, t) {
+                return Checked::Refused(Refusal::KeysNotAscending);
             }
             Checked::Page(h)
         }
     }
 }
 
-// Checks a page: its header, or the first of 1 to 8 that holds, each tested over all entries before
-// the next.
+// Checks a page: its header, or the first of 1 to 8 that holds. As a page is loaded, into a table
+// with no rows.
 pub fn check(page: &[u8]) -> Checked
     ensures answer { λ r. ⌜ checkedAnswer r ≡ checkPage (now (page .entry)) ⌝ }
 {
-    match shaped(page) {
-        Checked::Refused(r) => Checked::Refused(r),
-        Checked::Page(h) => {
-            if keys_unordered(page, h) {
-                return Checked::Refused(Refusal::KeysNotAscending);
-            }
-            Checked::Page(h)
-        }
-    }
+    let mut none = [0u64; 0];
+    load_page(page, &mut none)
+}
+
+// The key of entry i into 32 bytes, and its pointer.
+fn copy_entry(page: &[u8], h: Header, i: usize, key_out: &mut [u8; 32]) -> u64
+    requires { ⌜ SizesFit (now page) h × (i < h .n) ⌝ }
+    ensures answer { λ r. ⌜ r ≡ pointerOf (now (page .entry)) i ⌝ }
+    ensures written { λ _. ⌜ now («key_out» .exit) ≡ pack 32 (keyOf (now (page .entry)) i) ⌝ }
+{
+    let start = start_offset(page, i);
+    let key = get_key(page, h, prefix(page, h), i, start, cell(page, i));
+    key.to_bytes(key_out);
+    node_pointer(page, h, i)
 }
 
 // Entry `index` of a page: its pointer, and its key into `key_out`. Refused with 1 to 8, then with
@@ -272,85 +314,7 @@ pub fn entry(page: &[u8], index: usize, key_out: &mut [u8; 32]) -> EntryRead
             if h.n <= index {
                 return EntryRead::Refused(Refusal::IndexPastEnd);
             }
-            let start = start_offset(page, index);
-            let key = get_key(page, h, prefix(page, h), index, start, cell(page, index));
-            key.to_bytes(key_out);
-            EntryRead::Pointer(node_pointer(page, h, index))
-        }
-    }
-}
-
-// All entries into the rows of a table, with their positions.
-fn fill_rows(page: &[u8], h: Header, t: &mut [u64])
-    requires { ⌜ SizesFit (now page) h ⌝ }
-    ensures written { λ _. ⌜ now (t .exit)
-        ≡ withRows (now (t .entry)) 0 (entries (now (page .entry))) ⌝ }
-{
-    let n = h.n;
-    let shared = prefix(page, h);
-    let mut start: usize = 0;
-    let mut i: usize = 0;
-    while i < n {
-        let end = cell(page, i);
-        let key = get_key(page, h, shared, i, start, end);
-        table::set_row(t, i, key, node_pointer(page, h, i), i as u64);
-        start = end;
-        i += 1;
-    }
-}
-
-// Refusal 8 over the first n rows of a table.
-fn rows_unordered(t: &[u64], n: usize) -> bool
-    ensures answer { λ r. ⌜ r ≡ unordered (rowKey (now (t .entry))) n ⌝ }
-{
-    let mut last = table::key_of(t, 0);
-    let mut i: usize = 1;
-    while i < n {
-        let key = table::key_of(t, i);
-        if !last.less(key) {
-            return true;
-        }
-        last = key;
-        i += 1;
-    }
-    false
-}
-
-// The entries of a table's first n rows into the rows of another, with their positions.
-fn copy_rows(from: &[u64], n: usize, t: &mut [u64])
-    ensures written { λ _. ⌜ now (t .exit)
-        ≡ withRows (now (t .entry)) 0 (rows n (now (from .entry))) ⌝ }
-{
-    let mut i: usize = 0;
-    while i < n {
-        table::set_row(
-            t,
-            i,
-            table::key_of(from, i),
-            table::pointer_of(from, i),
-            i as u64,
-        );
-        i += 1;
-    }
-}
-
-// Checks a page and puts its entries into the first rows of a table, each with its position; those
-// past the table's last row are left out. The table is as it was after a refusal, 1 to 8: keys are
-// made once, into a table of its own, which is copied when all have been compared.
-pub fn load_page(page: &[u8], t: &mut [u64]) -> Checked
-    ensures answer { λ r. ⌜ checkedAnswer r ≡ checkPage (now (page .entry)) ⌝ }
-    ensures written { λ _. ⌜ now (t .exit) ≡ loaded (now (page .entry)) (now (t .entry)) ⌝ }
-{
-    match shaped(page) {
-        Checked::Refused(r) => Checked::Refused(r),
-        Checked::Page(h) => {
-            let mut own = [0u64; 4092];
-            fill_rows(page, h, &mut own);
-            if rows_unordered(&own, h.n) {
-                return Checked::Refused(Refusal::KeysNotAscending);
-            }
-            copy_rows(&own, h.n, t);
-            Checked::Page(h)
+            EntryRead::Pointer(copy_entry(page, h, index, key_out))
         }
     }
 }

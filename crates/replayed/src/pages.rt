@@ -4,8 +4,7 @@ use crate::cases;
 use node::reader;
 use node::reader::Checked;
 use node::reader::EntryRead;
-use node::sizes;
-use node::sizes::Size;
+use sizes::Size;
 ghost use Prim.Native.Nat.{_<_};
 
 // Fields from k on: refusal, size.

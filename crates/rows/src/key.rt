@@ -113,24 +113,33 @@ impl Key {
         ensures answer { λ r. ⌜ keyBits r ≡ fill 256 (take q (keyBits self)
             ++ take len (drop start (bitsOf (now (s .entry))))) ⌝ }
     {
-        let a = word_of(self.a, 0, q, s, start, len);
-        // What the first word holds is all, as for most keys of a page.
-        if q <= 64 {
-            if len <= 64 - q {
-                return Key {
-                    a,
-                    b: 0,
-                    c: 0,
-                    d: 0,
-                };
-            }
-        }
         Key {
-            a,
+            a: word_of(self.a, 0, q, s, start, len),
             b: word_of(self.b, 64, q, s, start, len),
             c: word_of(self.c, 128, q, s, start, len),
             d: word_of(self.d, 192, q, s, start, len),
         }
+    }
+
+    // The same, for a loop over keys of which most have no more bits than the first word.
+    pub fn with_few_bits(self, q: usize, s: &[u8], start: usize, len: usize) -> Self
+        ensures answer { λ r. ⌜ keyBits r ≡ fill 256 (take q (keyBits self)
+            ++ take len (drop start (bitsOf (now (s .entry))))) ⌝ }
+    {
+        if q <= 64 {
+            if len <= 64 - q {
+                if start / 8 < words::over(s.len(), 8) {
+                    let bits = words::first_bits(words::window(s, start), len);
+                    return Key {
+                        a: words::joined(self.a, q, bits),
+                        b: 0,
+                        c: 0,
+                        d: 0,
+                    };
+                }
+            }
+        }
+        self.with_bits(q, s, start, len)
     }
 
     // The key that 32 bytes hold.

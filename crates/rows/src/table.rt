@@ -2,9 +2,11 @@
 // base. Words past the table's end read as zeros, and a row that the table has not is not stored.
 // What a table holds: specs/Rows.antt.
 ghost use mathlib.Core.Path.{_≡_};
-ghost use lib.ListN.{getD};
+ghost use mathlib.Core.List.{_++_};
+ghost use Prim.Native.Nat.{_+_, _≤_};
+ghost use lib.ListN.{drop, getD, length, take};
 ghost use Rattle.rows.specs.Keys.{keyBits};
-ghost use Rattle.rows.specs.Rows.{rowKey, rowPointer, rowSource, withRow};
+ghost use Rattle.rows.specs.Rows.{rowKey, rowPointer, rowSource, rowWords, withRow};
 use crate::key::Key;
 
 // The word at i.
@@ -49,18 +51,27 @@ pub fn source_of(t: &[u64], i: usize) -> u64
     word_at(t, 6 * i + 5)
 }
 
+// An entry and its position in the base into the six words from j on, which are there.
+fn set_six(t: &mut [u64], j: usize, k: Key, pointer: u64, source: u64)
+    requires { ⌜ j + 6 ≤ length (now t) ⌝ }
+    ensures written { λ _. ⌜ now (t .exit) ≡ take j (now (t .entry))
+        ++ rowWords (record { key = keyBits k; pointer = pointer }) source
+        ++ drop (j + 6) (now (t .entry)) ⌝ }
+{
+    t[j] = k.a;
+    t[j + 1] = k.b;
+    t[j + 2] = k.c;
+    t[j + 3] = k.d;
+    t[j + 4] = pointer;
+    t[j + 5] = source;
+}
+
 // An entry and its position in the base into row i; nothing where the table has no such row.
 pub fn set_row(t: &mut [u64], i: usize, k: Key, pointer: u64, source: u64)
     ensures written { λ _. ⌜ now (t .exit)
         ≡ withRow (now (t .entry)) i (record { key = keyBits k; pointer = pointer }) source ⌝ }
 {
     if i < t.len() / 6 {
-        let j = 6 * i;
-        t[j] = k.a;
-        t[j + 1] = k.b;
-        t[j + 2] = k.c;
-        t[j + 3] = k.d;
-        t[j + 4] = pointer;
-        t[j + 5] = source;
+        set_six(t, 6 * i, k, pointer, source);
     }
 }

@@ -16,14 +16,14 @@ use Rattle.build.specs.declared.Numbers.{Numbers as Made}
 use Rattle.build.specs.declared.Built.{Built as PageBuilt}
 use Rattle.build.specs.declared.Built.the-variants.{Page as PageMade, Refused as NotBuilt}
 use Rattle.node.specs.Reader.{checkedAnswer, entryAnswer}
-use Rattle.node.specs.Sizes.{sizeAnswer}
+use Rattle.sizes.specs.Sizes.{sizeAnswer}
 use Rattle.node.specs.declared.reader.Header.{Header as PageHeader}
 use Rattle.node.specs.declared.reader.Checked.{Checked as PageChecked}
 use Rattle.node.specs.declared.reader.Checked.the-variants.{Page, Refused as PageRefused}
 use Rattle.node.specs.declared.reader.EntryRead.{EntryRead as PageRead}
 use Rattle.node.specs.declared.reader.EntryRead.the-variants.{Pointer, Refused as NotRead}
-use Rattle.node.specs.declared.sizes.Size.{Size as Sized}
-use Rattle.node.specs.declared.sizes.Size.the-variants.{Is, Refused as NotSized}
+use Rattle.sizes.specs.declared.Size.{Size as Sized}
+use Rattle.sizes.specs.declared.Size.the-variants.{Is, Refused as NotSized}
 use Rattle.trussember.specs.declared.answers.Built.{Built}
 use Rattle.trussember.specs.declared.answers.Checked.{Checked}
 use Rattle.trussember.specs.declared.answers.EntryRead.{EntryRead}

@@ -10,7 +10,6 @@ use crate::answers::EntryRead;
 use crate::answers::Size;
 use format::refusal::Outcome;
 use node::reader;
-use node::sizes;
 ghost use mathlib.Core.Path.{_≡_};
 ghost use Rattle.format.specs.Answer.{afterwards, refusalOf};
 ghost use Rattle.format.specs.Bits.{bitsOf, pack};
@@ -21,7 +20,7 @@ ghost use Rattle.format.specs.Ranges.{bitCopy, rebuildKey, separate};
 ghost use Rattle.format.specs.Refusals.{outcomeNumber};
 ghost use Rattle.format.specs.Sizes.{bodySize, storedFromWhole, wholeFromStored};
 ghost use Rattle.node.specs.Reader.{keyBytes, pointerRead};
-ghost use Rattle.node.specs.Sizes.{sizeAnswer};
+ghost use Rattle.sizes.specs.Sizes.{sizeAnswer};
 ghost use Rattle.trussember.specs.Told.{builtTold, checkedTold, entryTold, sizeTold};
 
 // The number of an outcome, 0 for what is done.

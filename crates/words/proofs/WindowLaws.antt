@@ -127,6 +127,25 @@ bits-byte i s = sym (go (decLe (suc i) (length s)))
         ap (fill 8) (drop-of-length-le (bitsOf s) {i = 8 * i} (omega (arith, length-bitsOf s))) ∙ fill-nil 8
         ∙ sym (ap (bits 8) (List·getD-eq-default s 0 k) ∙ bits-zero 8)
 
+-- the 64 bits from bit g of byte i on, out of the eight bytes from i on and the ninth
+pub nine-bytes : (s : List ℕ) (b i g x y r : ℕ) → g < 8 → 8 * i + g ≡ b
+    → bits 64 x ≡ fill 64 (drop (8 * i) (bitsOf s))
+    → y ≡ getD s (i + 8) 0 → bits 64 r ≡ take 64 (drop g (bits 64 x ++ bits 8 y))
+    → bits 64 r ≡ fill 64 (drop b (bitsOf s))
+nine-bytes s b i g x y r lg eb ex ey er =
+    let z : List ℕ = drop (8 * i) (bitsOf s) in
+    let e8 : 8 * (i + 8) ≡ 8 * i + 64 = omega arith in
+    let b8 : bits 8 y ≡ fill 8 (drop 64 z) =
+    ap (bits 8) ey ∙ bits-byte (i + 8) s
+    ∙ ap (fill 8) (ap (λ (k : ℕ). drop k (bitsOf s)) e8 ∙ sym (drop-drop 64 (8 * i) (bitsOf s))) in
+    let eq : 72 ≡ g + (72 - g) = omega arith in
+    let le : 64 ≤ 72 - g = omega arith in
+    er ∙ ap₂ (λ (u v : List ℕ). take 64 (drop g (u ++ v))) ex b8
+    ∙ ap (λ (u : List ℕ). take 64 (drop g u)) (sym (fill-add 64 8 z))
+    ∙ ap (λ (k : ℕ). take 64 (drop g (fill k z))) eq ∙ ap (take 64) (drop-fill g (72 - g) z)
+    ∙ take-fill 64 (72 - g) (drop g z) le
+    ∙ ap (fill 64) (drop-drop g (8 * i) (bitsOf s) ∙ ap (λ (k : ℕ). drop k (bitsOf s)) eb)
+
 pub byte-past : (s : List ℕ) (i : ℕ) → length s ≤ i → 0 ≡ getD s i 0
 byte-past s i h = sym (List·getD-eq-default s 0 h)
 

@@ -1,13 +1,13 @@
--- Words of 64 bits, in bytes.
--- In order: wordBytes withWord.
+-- Words of 64 bits, in bytes and out of them.
+-- In order: wordBytes withWord · windowBits.
 -- Assumes nothing.
-use Prim.Native.Nat.{ℕ, _+_}
+use Prim.Native.Nat.{ℕ, _+_, _/_}
 use mathlib.Core.Bool.{cond}
 use mathlib.Core.List.{List}
-use lib.Dec.{leb}
-use lib.ListN.{length}
+use lib.Dec.{leb, ltb}
+use lib.ListN.{length, drop, replicate}
 use lib.Seq.{paste}
-use Rattle.format.specs.Bits.{bits, pack}
+use Rattle.format.specs.Bits.{bits, bitsOf, fill, pack}
 
 -- The eight bytes of a word, most significant first.
 unfoldable pub wordBytes : ℕ → List ℕ
@@ -18,3 +18,8 @@ wordBytes x = pack 8 (bits 64 x)
 unfoldable pub withWord : List ℕ → ℕ → ℕ → List ℕ
 unfolding wordBytes
 withWord s i x = cond (leb (i + 8) (length s)) (paste s i (wordBytes x) 8) s
+
+-- The 64 bits of s from bit `start` on, where the nine bytes from there on are in s; else zeros.
+unfoldable pub windowBits : List ℕ → ℕ → List ℕ
+unfolding bitsOf fill
+windowBits s start = cond (ltb (start / 8 + 8) (length s)) (fill 64 (drop start (bitsOf s))) (replicate 64 0)

@@ -7,8 +7,8 @@ ghost use mathlib.Core.Path.{_≡_};
 ghost use mathlib.Core.List.{_++_};
 ghost use Prim.Native.Nat.{_+_, _-_, _*_, _^_, _<_, _≤_};
 ghost use lib.ListN.{length, take, drop, getD};
-ghost use Rattle.format.specs.Bits.{bits, bitsOf, fill, unle};
-ghost use Rattle.words.specs.Words.{withWord};
+ghost use Rattle.format.specs.Bits.{bits, bitsOf, fill, pack, unle};
+ghost use Rattle.words.specs.Words.{windowBits, withWord};
 
 // a - b, or 0 where that is below zero.
 pub fn over(a: usize, b: usize) -> usize
@@ -41,15 +41,20 @@ pub fn le_u16(s: &[u8], i: usize) -> usize
     byte_at(s, i) as usize
 }
 
+// The four bytes from i on, which are there, least significant first.
+fn le_four(s: &[u8], i: usize) -> u64
+    requires { ⌜ i + 4 ≤ length (now s) ⌝ }
+    ensures answer { λ r. ⌜ (r ≡ unle (take 4 (drop i (now (s .entry))))) × (r < 2 ^ 32) ⌝ }
+{
+    wide(s[i]) + wide(s[i + 1]) * 0x100 + wide(s[i + 2]) * 0x10000 + wide(s[i + 3]) * 0x1000000
+}
+
 // The four bytes from i on, least significant first.
 pub fn le_u32(s: &[u8], i: usize) -> u64
     ensures answer { λ r. ⌜ (r ≡ unle (take 4 (drop i (now (s .entry))))) × (r < 2 ^ 32) ⌝ }
 {
     if i < over(s.len(), 3) {
-        return wide(s[i])
-            + wide(s[i + 1]) * 0x100
-            + wide(s[i + 2]) * 0x10000
-            + wide(s[i + 3]) * 0x1000000;
+        return le_four(s, i);
     }
     if i < s.len() {
         return le_u16(s, i) as u64 + le_u16(s, i + 2) as u64 * 0x10000;
@@ -96,6 +101,22 @@ fn shifted(x: u64, y: u64, h: usize) -> u64
     (x << h) + (y >> (8 - h))
 }
 
+// The 64 bits from bit h of byte i on, out of nine bytes that are there.
+fn nine(s: &[u8], i: usize, h: usize) -> u64
+    requires { ⌜ (i + 8 < length (now s)) × (h < 8) ⌝ }
+    ensures answer { λ r. ⌜ bits 64 r ≡ fill 64 (drop (8 * i + h) (bitsOf (now (s .entry)))) ⌝ }
+{
+    shifted(eight(s, i), wide(s[i + 8]), h)
+}
+
+// The 64 bits from bit h of byte i on, near the end.
+fn nine_near_end(s: &[u8], i: usize, h: usize) -> u64
+    requires { ⌜ (i < 2 ^ 63) × (h < 8) ⌝ }
+    ensures answer { λ r. ⌜ bits 64 r ≡ fill 64 (drop (8 * i + h) (bitsOf (now (s .entry)))) ⌝ }
+{
+    shifted(near_end(s, i), byte_at(s, i + 8), h)
+}
+
 // The 64 bits from bit `start + skip` on; the sum itself need not fit.
 pub fn at_bit(s: &[u8], start: usize, skip: usize) -> u64
     ensures answer { λ r. ⌜ bits 64 r ≡ fill 64 (drop (start + skip) (bitsOf (now (s .entry)))) ⌝ }
@@ -103,9 +124,21 @@ pub fn at_bit(s: &[u8], start: usize, skip: usize) -> u64
     let h = start % 8 + skip % 8;
     let i = start / 8 + skip / 8 + h / 8;
     if i < over(s.len(), 8) {
-        return shifted(eight(s, i), wide(s[i + 8]), h % 8);
+        return nine(s, i, h % 8);
     }
-    shifted(near_end(s, i), byte_at(s, i + 8), h % 8)
+    nine_near_end(s, i, h % 8)
+}
+
+// The 64 bits from bit `start` on, where the nine bytes from there on are in the slice; else zeros.
+// As `at_bit`, with no way round the slice's end, so that a loop can hold it.
+pub fn window(s: &[u8], start: usize) -> u64
+    ensures answer { λ r. ⌜ bits 64 r ≡ windowBits (now (s .entry)) start ⌝ }
+{
+    let i = start / 8;
+    if i < over(s.len(), 8) {
+        return nine(s, i, start % 8);
+    }
+    0
 }
 
 // The first k bits of x, and zeros; all of x where k is 64 or more.
@@ -128,18 +161,24 @@ pub fn joined(x: u64, j: usize, y: u64) -> u64
     x - (x << j >> j) + (y >> j)
 }
 
+// The 32 last bits of x in the four bytes from i on, which are there, most significant first.
+fn store_four(s: &mut [u8], i: usize, x: u64)
+    requires { ⌜ i + 4 ≤ length (now s) ⌝ }
+    ensures written { λ _. ⌜ now (s .exit)
+        ≡ take i (now (s .entry)) ++ pack 4 (bits 32 x) ++ drop (i + 4) (now (s .entry)) ⌝ }
+{
+    s[i] = (x / 0x1000000 % 0x100) as u8;
+    s[i + 1] = (x / 0x10000 % 0x100) as u8;
+    s[i + 2] = (x / 0x100 % 0x100) as u8;
+    s[i + 3] = (x % 0x100) as u8;
+}
+
 // The word x in the eight bytes from i on, most significant first; nothing where they do not fit.
 pub fn store(s: &mut [u8], i: usize, x: u64)
     ensures written { λ _. ⌜ now (s .exit) ≡ withWord (now (s .entry)) i x ⌝ }
 {
     if i < over(s.len(), 7) {
-        s[i] = (x / 0x100000000000000 % 0x100) as u8;
-        s[i + 1] = (x / 0x1000000000000 % 0x100) as u8;
-        s[i + 2] = (x / 0x10000000000 % 0x100) as u8;
-        s[i + 3] = (x / 0x100000000 % 0x100) as u8;
-        s[i + 4] = (x / 0x1000000 % 0x100) as u8;
-        s[i + 5] = (x / 0x10000 % 0x100) as u8;
-        s[i + 6] = (x / 0x100 % 0x100) as u8;
-        s[i + 7] = (x % 0x100) as u8;
+        store_four(s, i, x / 0x100000000);
+        store_four(s, i + 4, x);
     }
 }

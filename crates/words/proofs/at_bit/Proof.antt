@@ -1,39 +1,20 @@
--- `words::at_bit` meets its contract: bit h % 8 of byte i is bit `start + skip` of the slice, and nine bytes from
--- there on hold the 64 bits.
+-- `words::at_bit` meets its contract: bit h % 8 of byte i is bit `start + skip` of the slice.
 -- Assumes nothing.
-use mathlib.Core.List.{List, _++_}
-use mathlib.Core.Path.{_≡_, sym, ap, ap₂, _∙_}
-use Prim.Native.Nat.{ℕ, _+_, _-_, _*_, _/_, _%_, _≤_}
+use mathlib.Core.List.{List}
+use mathlib.Core.Path.{_≡_, ap, _∙_}
+use Prim.Native.Nat.{ℕ, _+_, _*_, _/_, _%_}
 use native.Mathlib.Omega.{arith}
-use lib.ListN.{take, drop, getD}
-use lib.Seq.{drop-drop}
+use lib.ListN.{drop}
 use Rattle.format.specs.Bits.{bits, bitsOf, fill}
-use Rattle.facts.proofs.BitsLaws.{fill-add, take-fill}
-use Rattle.words.proofs.WindowLaws.{bits-byte, drop-fill}
 use borrow.Author.Needs.{needs}
 use Rattle.words.proofs.at_bit.Statement.{statement}
 use Rattle.words.proofs.at_bit.Tie as tie
 
-window : (s : List ℕ) (start skip h i x y r : ℕ) → h ≡ start % 8 + skip % 8 → i ≡ start / 8 + skip / 8 + h / 8
-    → bits 64 x ≡ fill 64 (drop (8 * i) (bitsOf s)) → y ≡ getD s (i + 8) 0
-    → bits 64 r ≡ take 64 (drop (h % 8) (bits 64 x ++ bits 8 y)) → bits 64 r ≡ fill 64 (drop (start + skip) (bitsOf s))
-window s start skip h i x y r eh ei ex ey er =
-    let g : ℕ = h % 8 in
-    let z : List ℕ = drop (8 * i) (bitsOf s) in
-    let e8 : 8 * (i + 8) ≡ 8 * i + 64 = omega arith in
-    let b8 : bits 8 y ≡ fill 8 (drop 64 z) =
-    ap (bits 8) ey ∙ bits-byte (i + 8) s
-    ∙ ap (fill 8) (ap (λ (k : ℕ). drop k (bitsOf s)) e8 ∙ sym (drop-drop 64 (8 * i) (bitsOf s))) in
-    let eq : 72 ≡ g + (72 - g) = omega arith in
-    let le : 64 ≤ 72 - g = omega arith in
-    let eb : 8 * i + g ≡ start + skip = omega arith in
-    er ∙ ap₂ (λ (u v : List ℕ). take 64 (drop g (u ++ v))) ex b8
-    ∙ ap (λ (u : List ℕ). take 64 (drop g u)) (sym (fill-add 64 8 z))
-    ∙ ap (λ (k : ℕ). take 64 (drop g (fill k z))) eq ∙ ap (take 64) (drop-fill g (72 - g) z)
-    ∙ take-fill 64 (72 - g) (drop g z) le
-    ∙ ap (fill 64) (drop-drop g (8 * i) (bitsOf s) ∙ ap (λ (k : ℕ). drop k (bitsOf s)) eb)
-
-ruleset laws = (window)
+at : (s : List ℕ) (start skip h i r : ℕ) → h ≡ start % 8 + skip % 8 → i ≡ start / 8 + skip / 8 + h / 8
+    → bits 64 r ≡ fill 64 (drop (8 * i + h % 8) (bitsOf s)) → bits 64 r ≡ fill 64 (drop (start + skip) (bitsOf s))
+at s start skip h i r eh ei er =
+    let e : 8 * i + h % 8 ≡ start + skip = omega arith in
+    er ∙ ap (λ (k : ℕ). fill 64 (drop k (bitsOf s))) e
 
 add-h : tie.Need-add-h
 add-h c = search needs
@@ -47,38 +28,17 @@ add-i-2 c = search needs
 over-requires : tie.Need-over-requires
 over-requires c κs = search needs
 
-eight-requires : tie.Need-eight-requires
-eight-requires c κs = search needs
-
-add-wide : tie.Need-add-wide
-add-wide c = search needs
-
-shared-slice-read-wide : tie.Need-shared-slice-read-wide
-shared-slice-read-wide c = search needs
-
-wide-requires : tie.Need-wide-requires
-wide-requires c κs = search needs
-
-shifted-requires : tie.Need-shifted-requires
-shifted-requires c κs = search needs
+nine-requires : tie.Need-nine-requires
+nine-requires c κs = search needs
 
 returns : tie.Need-returns
-returns c = search (needs, laws)
+returns c = search (needs, at)
 
-near-end-requires : tie.Need-near-end-requires
-near-end-requires c κs = search needs
-
-add-byte-at : tie.Need-add-byte-at
-add-byte-at c = search needs
-
-byte-at-requires : tie.Need-byte-at-requires
-byte-at-requires c κs = search needs
-
-shifted-requires-2 : tie.Need-shifted-requires-2
-shifted-requires-2 c κs = search needs
+nine-near-end-requires : tie.Need-nine-near-end-requires
+nine-near-end-requires c κs = search needs
 
 returns-2 : tie.Need-returns-2
-returns-2 c = search (needs, laws)
+returns-2 c = search (needs, at)
 
 pub at-bit-spec : {M : Type 1} → statement M
 at-bit-spec =
@@ -88,14 +48,7 @@ at-bit-spec =
     add-i
     add-i-2
     over-requires
-    eight-requires
-    add-wide
-    shared-slice-read-wide
-    wide-requires
-    shifted-requires
+    nine-requires
     returns
-    near-end-requires
-    add-byte-at
-    byte-at-requires
-    shifted-requires-2
+    nine-near-end-requires
     returns-2)

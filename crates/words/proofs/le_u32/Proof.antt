@@ -1,5 +1,5 @@
--- `words::le_u32` meets its contract: four bytes spell their first two and 65,536 times the next two (`unle-four`), by
--- the bytes themselves or by `le_u16`; past the end they spell 0.
+-- `words::le_u32` meets its contract: by the four bytes, or by `le_u16` where not all are there; past the end they
+-- spell 0.
 -- Assumes nothing.
 use mathlib.Core.List.{List}
 use mathlib.Core.Path.{_≡_, ap}
@@ -11,12 +11,6 @@ use Rattle.words.proofs.WindowLaws.{byte-past, unle-two, unle-four}
 use borrow.Author.Needs.{needs}
 use Rattle.words.proofs.le_u32.Statement.{statement}
 use Rattle.words.proofs.le_u32.Tie as tie
-
-all : (s : List ℕ) (i a b c d : ℕ) → a ≡ getD s i 0 → b ≡ getD s (i + 1) 0 → c ≡ getD s (i + 2) 0 → d ≡ getD s (i + 3) 0
-    → a + b * 256 + c * 65536 + d * 16777216 ≡ unle (take 4 (drop i s))
-all s i a b c d ea eb ec ed =
-    let e : (i + 2) + 1 ≡ i + 3 = omega arith in
-    omega (arith, unle-four s i, unle-two s i, unle-two s (i + 2), ap (λ (k : ℕ). getD s k 0) e)
 
 halves : (s : List ℕ) (i a b : ℕ) → a ≡ unle (take 2 (drop i s)) → b ≡ unle (take 2 (drop (i + 2) s))
     → a + b * 65536 ≡ unle (take 4 (drop i s))
@@ -38,79 +32,31 @@ none s i h =
       byte-past s ((i + 2) + 1) h3,
     )
 
-ruleset laws = (all, halves, none)
+ruleset laws = (halves, none)
 
 over-requires : tie.Need-over-requires
-over-requires c κs = search needs
+over-requires c κs = search (needs, laws)
 
-shared-slice-read-wide : tie.Need-shared-slice-read-wide
-shared-slice-read-wide c = search needs
-
-wide-requires : tie.Need-wide-requires
-wide-requires c κs = search needs
-
-add-wide : tie.Need-add-wide
-add-wide c = search needs
-
-shared-slice-read-wide-2 : tie.Need-shared-slice-read-wide-2
-shared-slice-read-wide-2 c = search needs
-
-wide-requires-2 : tie.Need-wide-requires-2
-wide-requires-2 c κs = search needs
-
-mul-result : tie.Need-mul-result
-mul-result c = search needs
-
-add-result : tie.Need-add-result
-add-result c = search needs
-
-add-wide-2 : tie.Need-add-wide-2
-add-wide-2 c = search needs
-
-shared-slice-read-wide-3 : tie.Need-shared-slice-read-wide-3
-shared-slice-read-wide-3 c = search needs
-
-wide-requires-3 : tie.Need-wide-requires-3
-wide-requires-3 c κs = search needs
-
-mul-result-2 : tie.Need-mul-result-2
-mul-result-2 c = search needs
-
-add-result-2 : tie.Need-add-result-2
-add-result-2 c = search needs
-
-add-wide-3 : tie.Need-add-wide-3
-add-wide-3 c = search needs
-
-shared-slice-read-wide-4 : tie.Need-shared-slice-read-wide-4
-shared-slice-read-wide-4 c = search needs
-
-wide-requires-4 : tie.Need-wide-requires-4
-wide-requires-4 c κs = search needs
-
-mul-result-3 : tie.Need-mul-result-3
-mul-result-3 c = search needs
-
-add-result-3 : tie.Need-add-result-3
-add-result-3 c = search needs
+le-four-requires : tie.Need-le-four-requires
+le-four-requires c κs = search (needs, laws)
 
 returns : tie.Need-returns
-returns c = search (needs, laws)
+returns c = search needs
 
 le-u16-requires : tie.Need-le-u16-requires
-le-u16-requires c κs = search needs
+le-u16-requires c κs = search (needs, laws)
 
 add-le-u16 : tie.Need-add-le-u16
-add-le-u16 c = search needs
+add-le-u16 c = search (needs, laws)
 
 le-u16-requires-2 : tie.Need-le-u16-requires-2
-le-u16-requires-2 c κs = search needs
+le-u16-requires-2 c κs = search (needs, laws)
 
-mul-result-4 : tie.Need-mul-result-4
-mul-result-4 c = search needs
+mul-result : tie.Need-mul-result
+mul-result c = search (needs, laws)
 
-add-result-4 : tie.Need-add-result-4
-add-result-4 c = search needs
+add-result : tie.Need-add-result
+add-result c = search (needs, laws)
 
 returns-2 : tie.Need-returns-2
 returns-2 c = search (needs, laws)
@@ -123,28 +69,12 @@ le-u32-spec =
     tie.close
     (tie.spec
     over-requires
-    shared-slice-read-wide
-    wide-requires
-    add-wide
-    shared-slice-read-wide-2
-    wide-requires-2
-    mul-result
-    add-result
-    add-wide-2
-    shared-slice-read-wide-3
-    wide-requires-3
-    mul-result-2
-    add-result-2
-    add-wide-3
-    shared-slice-read-wide-4
-    wide-requires-4
-    mul-result-3
-    add-result-3
+    le-four-requires
     returns
     le-u16-requires
     add-le-u16
     le-u16-requires-2
-    mul-result-4
-    add-result-4
+    mul-result
+    add-result
     returns-2
     returns-3)

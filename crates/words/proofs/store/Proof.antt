@@ -1,15 +1,24 @@
--- `words::store` meets its contract: eight stores in a row are a run (`sets-eq`), and the bytes stored are those of
--- the word.
+-- `words::store` meets its contract: the word's first four bytes and its last, one behind the other.
 -- Assumes nothing.
-use mathlib.Core.List.{List, [], _∷_, _++_, append-nil}
+use mathlib.Core.List.{List, _++_, append-assoc}
 use mathlib.Core.Path.{_≡_, sym, ap, ap₂, _∙_}
-use Prim.Native.Nat.{ℕ, suc, _+_, _-_, _*_, _/_, _%_, _^_, _≤_, _<_}
-use native.Mathlib.Nat.{mod-lt}
+use Prim.Native.Nat.{ℕ, _+_, _-_, _/_, _%_, _^_, _≤_, _<_}
 use native.Mathlib.Omega.{arith}
-use lib.ListN.{length, take, drop, set, length-set}
-use lib.Seq.{sets-eq}
-use Rattle.format.specs.Bits.{bits, bitsOf, AllBelow}
-use Rattle.facts.proofs.BitsLaws.{bits-mod, packed}
+use lib.ListN.{length, take, drop, length-append}
+use lib.Seq.{take-at, drop-at, drop-drop, length-take-le}
+use Rattle.format.specs.Bits.{bits, bitsOf, fill, pack, AllBelow}
+use Rattle.facts.proofs.BitsLaws.{
+  allBelow-append,
+  allBelow-bits,
+  allBelow-pack,
+  bits-mod,
+  bitsOf-append,
+  bitsOf-pack,
+  fill-exact,
+  length-bits,
+  length-pack,
+  packed,
+}
 use Rattle.words.specs.Words.{wordBytes, withWord}
 use Rattle.words.proofs.NumberLaws.{bits-split}
 use Rattle.words.proofs.WordsLaws.{withWord-in, withWord-out}
@@ -17,155 +26,75 @@ use borrow.Author.Needs.{needs}
 use Rattle.words.proofs.store.Statement.{statement}
 use Rattle.words.proofs.store.Tie as tie
 
--- the bytes that are stored
-stored : ℕ → List ℕ
-stored x =
-    x / 72057594037927936 % 256
-    ∷ x / 281474976710656 % 256
-    ∷ x / 1099511627776 % 256
-    ∷ x / 4294967296 % 256
-    ∷ x / 16777216 % 256
-    ∷ x / 65536 % 256
-    ∷ x / 256 % 256
-    ∷ x % 256
-    ∷ []
+-- four bytes of 32 bits
+four : ℕ → List ℕ
+four x = pack 4 (bits 32 x)
 
--- the first byte of 8 + k bits, and the k that follow
-first-byte : (k x : ℕ) → bits (8 + k) x ≡ bits 8 (x / 2 ^ k % 256) ++ bits k x
-first-byte k x =
-    bits-split 8 k x ∙ ap₂ _++_ (sym (bits-mod 8 8 (x / 2 ^ k) (omega arith))) (bits-mod k k x (omega arith))
+bitsOf-four : (x : ℕ) → bitsOf (four x) ≡ bits 32 x
+unfolding four
+bitsOf-four x = bitsOf-pack 4 (bits 32 x) (allBelow-bits 32 x) ∙ fill-exact (bits 32 x) 32 (length-bits 32 x)
 
-bitsOf-stored : (x : ℕ) → bitsOf (stored x) ≡ bits 64 x
-unfolding bitsOf stored
-bitsOf-stored x =
-    let b : (n : ℕ) → List ℕ = λ n. bits 8 (n % 256) in
-    sym (first-byte 56 x ∙ ap (λ (l : List ℕ). b (x / 72057594037927936) ++ l) (first-byte 48 x
-    ∙ ap (λ (l : List ℕ). b (x / 281474976710656) ++ l) (first-byte 40 x
-    ∙ ap (λ (l : List ℕ). b (x / 1099511627776) ++ l) (first-byte 32 x
-    ∙ ap (λ (l : List ℕ). b (x / 4294967296) ++ l) (first-byte 24 x
-    ∙ ap (λ (l : List ℕ). b (x / 16777216) ++ l) (first-byte 16 x
-    ∙ ap (λ (l : List ℕ). b (x / 65536) ++ l) (first-byte 8 x
-    ∙ ap (λ (l : List ℕ). b (x / 256) ++ l)
-    (sym (bits-mod 8 8 x (omega arith)) ∙ sym (append-nil (bits 8 (x % 256)))))))))))
-
-allBelow-stored : (x : ℕ) → AllBelow 256 (stored x)
-unfolding stored AllBelow
-allBelow-stored x =
-    let b : (n : ℕ) → n % 256 < 256 = λ n. mod-lt n {m = 256} (omega arith) in (
-      b (x / 72057594037927936),
-      (
-        b (x / 281474976710656),
-        (
-          b (x / 1099511627776),
-          (b (x / 4294967296), (b (x / 16777216), (b (x / 65536), (b (x / 256), (b x, tt))))),
-        ),
-      ),
-    )
-
-are-bytes : (x : ℕ) → stored x ≡ wordBytes x
-unfolding wordBytes stored
-are-bytes x = packed (stored x) (bits 64 x) (allBelow-stored x) (bitsOf-stored x)
+-- the word's bytes are the first four and the last
+halves : (x : ℕ) → four (x / 4294967296) ++ four x ≡ wordBytes x
+unfolding wordBytes four
+halves x =
+    let a : AllBelow 256 (four (x / 4294967296) ++ four x) =
+    allBelow-append 256 (four (x / 4294967296)) (four x)
+    (allBelow-pack 4 (bits 32 (x / 4294967296)) (allBelow-bits 32 (x / 4294967296)))
+    (allBelow-pack 4 (bits 32 x) (allBelow-bits 32 x)) in
+    let l : length (four (x / 4294967296) ++ four x) ≡ 8 =
+    length-append (four (x / 4294967296)) (four x)
+    ∙ ap₂ _+_ (length-pack 4 (bits 32 (x / 4294967296))) (length-pack 4 (bits 32 x)) in
+    packed (four (x / 4294967296) ++ four x) (bits 64 x) a
+    (bitsOf-append (four (x / 4294967296)) (four x)
+    ∙ ap₂ _++_ (bitsOf-four (x / 4294967296)) (bitsOf-four x ∙ sym (bits-mod 32 32 x (omega arith)))
+    ∙ sym (bits-split 32 32 x))
+    ∙ ap (λ (n : ℕ). pack n (bits 64 x)) l
 
 module _ (s : List ℕ) (i r x : ℕ) (er : r ≡ length s - 7) where
-  in-room : i < r
-      → set
-      (set (set (set (set (set (set (set s i (x / 72057594037927936 % 256)) (i + 1) (x / 281474976710656 % 256)) (i + 2)
-      (x / 1099511627776 % 256)) (i + 3) (x / 4294967296 % 256)) (i + 4) (x / 16777216 % 256)) (i + 5)
-      (x / 65536 % 256)) (i + 6)
-      (x / 256 % 256)) (i + 7) (x % 256)
-      ≡ withWord s i x
-  unfolding stored
-  in-room h =
-      let e1 : i + 1 ≡ suc i = omega arith in
-      let e2 : i + 2 ≡ suc (suc i) = omega arith in
-      let e3 : i + 3 ≡ suc (suc (suc i)) = omega arith in
-      let e4 : i + 4 ≡ suc (suc (suc (suc i))) = omega arith in
-      let e5 : i + 5 ≡ suc (suc (suc (suc (suc i)))) = omega arith in
-      let e6 : i + 6 ≡ suc (suc (suc (suc (suc (suc i))))) = omega arith in
-      let e7 : i + 7 ≡ suc (suc (suc (suc (suc (suc (suc i)))))) = omega arith in
-      rw (e1, e2, e3, e4, e5, e6, e7)
-      (sets-eq (stored x) s i (omega arith) ∙ ap (λ (w : List ℕ). take i s ++ w ++ drop (i + 8) s) (are-bytes x)
-      ∙ sym (withWord-in s i x (omega arith)))
+  in-room : (u v : List ℕ) → i < r → u ≡ take i s ++ pack 4 (bits 32 (x / 4294967296)) ++ drop (i + 4) s
+      → v ≡ take (i + 4) u ++ pack 4 (bits 32 x) ++ drop ((i + 4) + 4) u → v ≡ withWord s i x
+  unfolding four
+  in-room u v h eu ev =
+      let P : List ℕ = four (x / 4294967296) in
+      let lt : length (take i s) ≡ i = length-take-le i s (omega arith) in
+      let l : length (take i s ++ P) ≡ i + 4 =
+      omega (arith, length-append (take i s) P, length-pack 4 (bits 32 (x / 4294967296))) in
+      let t : take (i + 4) u ≡ take i s ++ P =
+      ap (take (i + 4)) eu ∙ take-at (take i s ++ P) (drop (i + 4) s) (i + 4) l in
+      let d : drop ((i + 4) + 4) u ≡ drop ((i + 4) + 4) s =
+      sym (drop-drop 4 (i + 4) u)
+      ∙ ap (drop 4) (ap (drop (i + 4)) eu ∙ drop-at (take i s ++ P) (drop (i + 4) s) (i + 4) l)
+      ∙ drop-drop 4 (i + 4) s in
+      let e : (i + 4) + 4 ≡ i + 8 = omega arith in
+      ev ∙ ap₂ (λ (y z : List ℕ). y ++ four x ++ z) t (d ∙ ap (λ (k : ℕ). drop k s) e)
+      ∙ ap (λ (y : List ℕ). y ++ drop (i + 8) s)
+      (append-assoc (take i s) P (four x) ∙ ap (λ (y : List ℕ). take i s ++ y) (halves x))
+      ∙ sym (withWord-in s i x (omega arith))
 
   no-room : r ≤ i → s ≡ withWord s i x
   no-room h = sym (withWord-out s i x (omega arith))
 
-ruleset laws = (in-room, no-room)
+-- what is behind the first four bytes
+room : (s u : List ℕ) (i r : ℕ) → r ≡ length s - 7 → i < r → length u ≡ length s → (i + 4) + 4 ≤ length u
+room s u i r er h e = omega arith
+
+ruleset laws = (in-room, no-room, room)
 
 over-requires : tie.Need-over-requires
-over-requires c κs = search needs
+over-requires c κs = search (needs, laws)
 
-cast-s : tie.Need-cast-s
-cast-s c = search needs
+store-four-requires : tie.Need-store-four-requires
+store-four-requires c κs = search (needs, laws)
 
-slice-write-s : tie.Need-slice-write-s
-slice-write-s c = search needs
+add-store-four : tie.Need-add-store-four
+add-store-four c = search (needs, laws)
 
-cast-s-2 : tie.Need-cast-s-2
-cast-s-2 c = search needs
-
-add-s : tie.Need-add-s
-add-s c = search needs
-
-slice-write-s-2 : tie.Need-slice-write-s-2
-slice-write-s-2 c = simp length-set (omega arith)
-
-cast-s-3 : tie.Need-cast-s-3
-cast-s-3 c = search needs
-
-add-s-2 : tie.Need-add-s-2
-add-s-2 c = search needs
-
-slice-write-s-3 : tie.Need-slice-write-s-3
-slice-write-s-3 c = simp length-set (omega arith)
-
-cast-s-4 : tie.Need-cast-s-4
-cast-s-4 c = search needs
-
-add-s-3 : tie.Need-add-s-3
-add-s-3 c = search needs
-
-slice-write-s-4 : tie.Need-slice-write-s-4
-slice-write-s-4 c = simp length-set (omega arith)
-
-cast-s-5 : tie.Need-cast-s-5
-cast-s-5 c = search needs
-
-add-s-4 : tie.Need-add-s-4
-add-s-4 c = search needs
-
-slice-write-s-5 : tie.Need-slice-write-s-5
-slice-write-s-5 c = simp length-set (omega arith)
-
-cast-s-6 : tie.Need-cast-s-6
-cast-s-6 c = search needs
-
-add-s-5 : tie.Need-add-s-5
-add-s-5 c = search needs
-
-slice-write-s-6 : tie.Need-slice-write-s-6
-slice-write-s-6 c = simp length-set (omega arith)
-
-cast-s-7 : tie.Need-cast-s-7
-cast-s-7 c = search needs
-
-add-s-6 : tie.Need-add-s-6
-add-s-6 c = search needs
-
-slice-write-s-7 : tie.Need-slice-write-s-7
-slice-write-s-7 c = simp length-set (omega arith)
-
-cast-s-8 : tie.Need-cast-s-8
-cast-s-8 c = search needs
-
-add-s-7 : tie.Need-add-s-7
-add-s-7 c = search needs
-
-slice-write-s-8 : tie.Need-slice-write-s-8
-slice-write-s-8 c = simp length-set (omega arith)
+store-four-requires-2 : tie.Need-store-four-requires-2
+store-four-requires-2 c κs = search (needs, laws)
 
 same-length : tie.Need-same-length
-same-length c = simp length-set
+same-length c = search (needs, laws)
 
 returns : tie.Need-returns
 returns c = search (needs, laws)
@@ -178,29 +107,9 @@ store-spec =
     tie.close
     (tie.spec
     over-requires
-    cast-s
-    slice-write-s
-    cast-s-2
-    add-s
-    slice-write-s-2
-    cast-s-3
-    add-s-2
-    slice-write-s-3
-    cast-s-4
-    add-s-3
-    slice-write-s-4
-    cast-s-5
-    add-s-4
-    slice-write-s-5
-    cast-s-6
-    add-s-5
-    slice-write-s-6
-    cast-s-7
-    add-s-6
-    slice-write-s-7
-    cast-s-8
-    add-s-7
-    slice-write-s-8
+    store-four-requires
+    add-store-four
+    store-four-requires-2
     same-length
     returns
     returns-2)

@@ -17,8 +17,6 @@ use Rattle.facts.proofs.AcceptedLaws.{
   readEntry-outside,
   readEntry-refused,
 }
-use Rattle.rows.specs.declared.key.Key.{Key}
-use Rattle.rows.specs.Keys.{keyBits}
 use Rattle.node.specs.declared.reader.Header.{Header}
 use Rattle.node.specs.declared.reader.Checked.{Checked}
 use Rattle.node.specs.declared.reader.Checked.the-variants.{Page, Refused}
@@ -75,42 +73,26 @@ module _ (p : List ℕ) (c : Checked) (e : checkedAnswer c ≡ checkPage p) (i :
       unfolding pointerRead entryOf
       pointer x ex = ap (λ (n : ℕ). Answer.Value n) ex ∙ sym (ap pointerRead is-read)
 
-      key : (was k : List ℕ) (r : Key) → keyBits r ≡ keyOf p i → k ≡ pack 32 (keyBits r)
-          → k ≡ afterwards (readEntry p i) keyBytes was
+      key : (was k : List ℕ) → k ≡ pack 32 (keyOf p i) → k ≡ afterwards (readEntry p i) keyBytes was
       unfolding afterwards keyBytes entryOf
-      key was k r er ek = ek ∙ ap (pack 32) er ∙ sym (ap (λ (a : Answer Entry). afterwards a keyBytes was) is-read)
+      key was k ek = ek ∙ sym (ap (λ (a : Answer Entry). afterwards a keyBytes was) is-read)
 
 ruleset laws = (refused, refused-kept, fits, outside, outside-kept, pointer, key)
 
 check-requires : tie.Need-check-requires
-check-requires c κs = search needs
+check-requires c κs = search (needs, laws)
 
 enum-known-r : tie.Need-enum-known-r
-enum-known-r c = search needs
+enum-known-r c = search (needs, laws)
 
 enum-known-h : tie.Need-enum-known-h
-enum-known-h c = search needs
+enum-known-h c = search (needs, laws)
 
 returns : tie.Need-returns
 returns c = search (needs, laws)
 
-start-offset-requires : tie.Need-start-offset-requires
-start-offset-requires c κs = search needs
-
-prefix-requires : tie.Need-prefix-requires
-prefix-requires c κs = search (needs, laws)
-
-cell-requires : tie.Need-cell-requires
-cell-requires c κs = search needs
-
-get-key-requires : tie.Need-get-key-requires
-get-key-requires c κs = search (needs, laws)
-
-to-bytes-requires : tie.Need-to-bytes-requires
-to-bytes-requires c κs = search needs
-
-node-pointer-requires : tie.Need-node-pointer-requires
-node-pointer-requires c κs = search (needs, laws)
+copy-entry-requires : tie.Need-copy-entry-requires
+copy-entry-requires c κs = search (needs, laws)
 
 returns-2 : tie.Need-returns-2
 returns-2 c = search (needs, laws)
@@ -126,11 +108,6 @@ entry-spec =
     enum-known-r
     enum-known-h
     returns
-    start-offset-requires
-    prefix-requires
-    cell-requires
-    get-key-requires
-    to-bytes-requires
-    node-pointer-requires
+    copy-entry-requires
     returns-2
     returns-3)

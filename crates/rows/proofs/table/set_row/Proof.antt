@@ -1,107 +1,35 @@
--- `rows::table::set_row` meets its contract: six stores in a row are a run (`sets-eq`), and each word of a key is the
--- value of its bits.
+-- `rows::table::set_row` meets its contract: the six words of a row that the table has, and none else.
 -- Assumes nothing.
-use mathlib.Core.List.{List, [], _∷_, _++_}
-use mathlib.Core.Path.{_≡_, sym, ap, ap₂, _∙_}
-use Prim.Native.Nat.{ℕ, suc, _+_, _*_, _/_, _^_, _≤_, _<_}
+use mathlib.Core.List.{List, _++_}
+use mathlib.Core.Path.{_≡_, sym, _∙_}
+use Prim.Native.Nat.{ℕ, _+_, _*_, _/_, _≤_, _<_}
 use native.Mathlib.Omega.{arith}
-use lib.ListN.{length, take, drop, set, length-set}
-use lib.Seq.{sets-eq}
-use Rattle.rows.specs.declared.key.Key.{Key}
-use Rattle.rows.specs.Keys.{keyBits}
+use lib.ListN.{length, take, drop}
+use Rattle.format.specs.Page.{Entry}
 use Rattle.rows.specs.Rows.{rowWords, withRow}
-use Rattle.rows.proofs.KeysLaws.{word-a, word-b, word-c, word-d}
 use Rattle.rows.proofs.RowsLaws.{withRow-in, withRow-out}
 use borrow.Author.Needs.{needs}
 use Rattle.rows.proofs.table.set_row.Statement.{statement}
 use Rattle.rows.proofs.table.set_row.Tie as tie
 
-module _ (t : List ℕ) (i : ℕ) (k : Key) (p s : ℕ) where
-  words : k .a < 2 ^ 64 → k .b < 2 ^ 64 → k .c < 2 ^ 64 → k .d < 2 ^ 64
-      → k .a ∷ k .b ∷ k .c ∷ k .d ∷ p ∷ s ∷ [] ≡ rowWords (record { key = keyBits k; pointer = p }) s
-  unfolding rowWords
-  words ha hb hc hd =
-      sym (ap₂ (λ (x : ℕ) (l : List ℕ). x ∷ l) (word-a k ha) (ap₂ (λ (x : ℕ) (l : List ℕ). x ∷ l) (word-b k hb)
-      (ap₂ (λ (x y : ℕ). x ∷ y ∷ p ∷ s ∷ []) (word-c k hc) (word-d k hd))))
+module _ (t : List ℕ) (i : ℕ) (e : Entry) (s : ℕ) where
+  in-room : (u : List ℕ) → i < length t / 6 → u ≡ take (6 * i) t ++ rowWords e s ++ drop (6 * i + 6) t
+      → u ≡ withRow t i e s
+  in-room u h eu = eu ∙ sym (withRow-in t i e s h)
 
-  in-room : i < length t / 6 → k .a < 2 ^ 64 → k .b < 2 ^ 64 → k .c < 2 ^ 64 → k .d < 2 ^ 64
-      → set
-      (set (set (set (set (set t (6 * i) (k .a)) (6 * i + 1) (k .b)) (6 * i + 2) (k .c)) (6 * i + 3) (k .d))
-      (6 * i + 4) p)
-      (6 * i + 5) s
-      ≡ withRow t i (record { key = keyBits k; pointer = p }) s
-  in-room h ha hb hc hd =
-      let e1 : 6 * i + 1 ≡ suc (6 * i) = omega arith in
-      let e2 : 6 * i + 2 ≡ suc (suc (6 * i)) = omega arith in
-      let e3 : 6 * i + 3 ≡ suc (suc (suc (6 * i))) = omega arith in
-      let e4 : 6 * i + 4 ≡ suc (suc (suc (suc (6 * i)))) = omega arith in
-      let e5 : 6 * i + 5 ≡ suc (suc (suc (suc (suc (6 * i))))) = omega arith in
-      rw (e1, e2, e3, e4, e5)
-      (sets-eq (k .a ∷ k .b ∷ k .c ∷ k .d ∷ p ∷ s ∷ []) t (6 * i) (omega arith)
-      ∙ ap (λ (w : List ℕ). take (6 * i) t ++ w ++ drop (6 * i + 6) t) (words ha hb hc hd)
-      ∙ sym (withRow-in t i (record { key = keyBits k; pointer = p }) s h))
-
-  no-room : length t / 6 ≤ i → t ≡ withRow t i (record { key = keyBits k; pointer = p }) s
-  no-room h = sym (withRow-out t i (record { key = keyBits k; pointer = p }) s h)
+  no-room : length t / 6 ≤ i → t ≡ withRow t i e s
+  no-room h = sym (withRow-out t i e s h)
 
 ruleset laws = (in-room, no-room)
 
-mul-j : tie.Need-mul-j
-mul-j c = search needs
+mul-set-six : tie.Need-mul-set-six
+mul-set-six c = search (needs, laws)
 
-mul-t : tie.Need-mul-t
-mul-t c = search needs
-
-slice-write-t : tie.Need-slice-write-t
-slice-write-t c = search needs
-
-add-t : tie.Need-add-t
-add-t c = search needs
-
-mul-t-2 : tie.Need-mul-t-2
-mul-t-2 c = search needs
-
-slice-write-t-2 : tie.Need-slice-write-t-2
-slice-write-t-2 c = simp length-set (omega arith)
-
-add-t-2 : tie.Need-add-t-2
-add-t-2 c = search needs
-
-mul-t-3 : tie.Need-mul-t-3
-mul-t-3 c = search needs
-
-slice-write-t-3 : tie.Need-slice-write-t-3
-slice-write-t-3 c = simp length-set (omega arith)
-
-add-t-3 : tie.Need-add-t-3
-add-t-3 c = search needs
-
-mul-t-4 : tie.Need-mul-t-4
-mul-t-4 c = search needs
-
-slice-write-t-4 : tie.Need-slice-write-t-4
-slice-write-t-4 c = simp length-set (omega arith)
-
-add-t-4 : tie.Need-add-t-4
-add-t-4 c = search needs
-
-mul-t-5 : tie.Need-mul-t-5
-mul-t-5 c = search needs
-
-slice-write-t-5 : tie.Need-slice-write-t-5
-slice-write-t-5 c = simp length-set (omega arith)
-
-add-t-5 : tie.Need-add-t-5
-add-t-5 c = search needs
-
-mul-t-6 : tie.Need-mul-t-6
-mul-t-6 c = search needs
-
-slice-write-t-6 : tie.Need-slice-write-t-6
-slice-write-t-6 c = simp length-set (omega arith)
+set-six-requires : tie.Need-set-six-requires
+set-six-requires c κs = search (needs, laws)
 
 same-length : tie.Need-same-length
-same-length c = search needs
+same-length c = search (needs, laws)
 
 returns : tie.Need-returns
 returns c = search (needs, laws)
@@ -110,27 +38,4 @@ returns-2 : tie.Need-returns-2
 returns-2 c = search (needs, laws)
 
 pub set-row-spec : {M : Type 1} → statement M
-set-row-spec =
-    tie.close
-    (tie.spec
-    mul-j
-    mul-t
-    slice-write-t
-    add-t
-    mul-t-2
-    slice-write-t-2
-    add-t-2
-    mul-t-3
-    slice-write-t-3
-    add-t-3
-    mul-t-4
-    slice-write-t-4
-    add-t-4
-    mul-t-5
-    slice-write-t-5
-    add-t-5
-    mul-t-6
-    slice-write-t-6
-    same-length
-    returns
-    returns-2)
+set-row-spec = tie.close (tie.spec mul-set-six set-six-requires same-length returns returns-2)

@@ -1,0 +1,48 @@
+-- `node::reader::copy_entry` meets its contract: the key's bytes, then the pointer.
+-- Assumes nothing.
+use mathlib.Core.List.{List}
+use mathlib.Core.Path.{_≡_, ap, _∙_}
+use Prim.Native.Nat.{ℕ}
+use Rattle.format.specs.Bits.{pack}
+use Rattle.format.specs.Page.{keyOf}
+use Rattle.rows.specs.declared.key.Key.{Key}
+use Rattle.rows.specs.Keys.{keyBits}
+use borrow.Author.Needs.{needs}
+use Rattle.node.proofs.reader.copy_entry.Statement.{statement}
+use Rattle.node.proofs.reader.copy_entry.Tie as tie
+
+key : (p k : List ℕ) (i : ℕ) (r : Key) → keyBits r ≡ keyOf p i → k ≡ pack 32 (keyBits r) → k ≡ pack 32 (keyOf p i)
+key p k i r er ek = ek ∙ ap (pack 32) er
+
+start-offset-requires : tie.Need-start-offset-requires
+start-offset-requires c κs = search needs
+
+prefix-requires : tie.Need-prefix-requires
+prefix-requires c κs = search needs
+
+cell-requires : tie.Need-cell-requires
+cell-requires c κs = search needs
+
+get-key-requires : tie.Need-get-key-requires
+get-key-requires c κs = search needs
+
+to-bytes-requires : tie.Need-to-bytes-requires
+to-bytes-requires c κs = search needs
+
+node-pointer-requires : tie.Need-node-pointer-requires
+node-pointer-requires c κs = search needs
+
+returns : tie.Need-returns
+returns c = search (needs, key)
+
+pub copy-entry-spec : {M : Type 1} → statement M
+copy-entry-spec =
+    tie.close
+    (tie.spec
+    start-offset-requires
+    prefix-requires
+    cell-requires
+    get-key-requires
+    to-bytes-requires
+    node-pointer-requires
+    returns)

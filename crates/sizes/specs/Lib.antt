@@ -1,0 +1,2 @@
+-- What the contracts of `sizes` cite, as definitions.
+pub mod Sizes
