@@ -1,6 +1,7 @@
 // Runs the cases of data/cases, a sample of an independent model's cases of document 01 that
-// tools/sample.py writes, and prints a line for each operation: its name, how many cases ran, and
-// how many of them came out otherwise than they should.
+// tools/sample.py writes, and those of data/frozen, the Rust's own answers that tests/oracle writes.
+// For each file it prints its name and a line for each operation: the operation's name, how many
+// cases ran, and how many of them came out otherwise than they should.
 mod bits;
 mod builds;
 mod cases;
@@ -22,13 +23,14 @@ fn run(op: usize, s: &[u8]) -> bool {
         8 => pages::stored(s),
         9 => pages::page(s),
         10 => builds::build(s),
+        11 => true, // a note
         _ => false,
     }
 }
 
 // One more at place i of a tally; at place 0 where it has no such place.
-fn count(tally: &mut [u64; 11], i: usize) {
-    if 11 <= i {
+fn count(tally: &mut [u64; 12], i: usize) {
+    if 12 <= i {
         tally[0] = std::num::wrapping_add_u64(tally[0], 1);
         return;
     }
@@ -36,7 +38,7 @@ fn count(tally: &mut [u64; 11], i: usize) {
 }
 
 // Reads the next case and runs it. One that cannot be read counts at place 0.
-fn step(fd: i32, buf: &mut [u8], ran: &mut [u64; 11], differed: &mut [u64; 11]) {
+fn step(fd: i32, buf: &mut [u8], ran: &mut [u64; 12], differed: &mut [u64; 12]) {
     let c = cases::read(fd, buf);
     let size = c.size;
     count(ran, c.op);
@@ -45,15 +47,15 @@ fn step(fd: i32, buf: &mut [u8], ran: &mut [u64; 11], differed: &mut [u64; 11]) 
     }
 }
 
-fn steps(fd: i32, buf: &mut [u8], ran: &mut [u64; 11], differed: &mut [u64; 11]) {
+fn steps(fd: i32, buf: &mut [u8], ran: &mut [u64; 12], differed: &mut [u64; 12]) {
     for _ in 0..cases::how_many(fd) {
         step(fd, buf, ran, differed);
     }
 }
 
 // Prints an operation's name and place i of both tallies.
-fn line(name: &[u8], ran: &[u64; 11], differed: &[u64; 11], i: usize)
-    requires { ⌜ i < 11 ⌝ }
+fn line(name: &[u8], ran: &[u64; 12], differed: &[u64; 12], i: usize)
+    requires { ⌜ i < 12 ⌝ }
 {
     io::write_all(STDOUT_FILENO, name);
     io::write_all(STDOUT_FILENO, b" ");
@@ -63,7 +65,7 @@ fn line(name: &[u8], ran: &[u64; 11], differed: &[u64; 11], i: usize)
     io::write_all(STDOUT_FILENO, b"\n");
 }
 
-fn report(ran: &[u64; 11], differed: &[u64; 11]) {
+fn report(ran: &[u64; 12], differed: &[u64; 12]) {
     line(b"sep_len", ran, differed, 1);
     line(b"shared", ran, differed, 2);
     line(b"separate", ran, differed, 3);
@@ -80,19 +82,27 @@ fn report(ran: &[u64; 11], differed: &[u64; 11]) {
 }
 
 fn replay(fd: i32) {
-    let mut ran = [0u64; 11];
-    let mut differed = [0u64; 11];
+    let mut ran = [0u64; 12];
+    let mut differed = [0u64; 12];
     let mut buf = io::large_buffer();
     steps(fd, &mut buf, &mut ran, &mut differed);
     report(&ran, &differed);
 }
 
-fn main() {
-    let fd = os::open_read(b"cases");
+// Replays a file of cases.
+fn replay_file(name: &[u8]) {
+    let fd = os::open_read(name);
     if fd < 0 {
-        os::fail(b"cases");
+        os::fail(name);
         return;
     }
+    io::write_all(STDOUT_FILENO, name);
+    io::write_all(STDOUT_FILENO, b"\n");
     replay(fd);
     libc::close(fd);
+}
+
+fn main() {
+    replay_file(b"cases");
+    replay_file(b"frozen");
 }

@@ -466,7 +466,7 @@ fn built(
 }
 
 // the page that the Rust makes by pushes
-fn pushed(all: &[Entry], number: u32, m: usize, q: usize) -> Option<Vec<u8>> {
+pub fn pushed(all: &[Entry], number: u32, m: usize, q: usize) -> Option<Vec<u8>> {
     quiet(|| {
         let mut b = nomt::Builder::new(nomt::Node::of(&[0; PAGE]), number, all.len(), m, q);
         for e in all {

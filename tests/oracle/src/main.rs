@@ -4,9 +4,11 @@
 //!     oracle differences        the known differences alone
 //!     oracle vectors FILE       a file of cases
 //!     oracle bench              times, the port beside the Rust
+//!     oracle freeze FILE        the Rust's answers, for the program `replayed`
 mod bench;
 mod compare;
 mod differences;
+mod freeze;
 mod generate;
 mod naive;
 mod port;
@@ -21,6 +23,7 @@ fn main() {
         Some("vectors") => vectors::run(word(1).expect("vectors FILE")),
         Some("bench") => bench::run(),
         Some("differences") => differences::run(),
+        Some("freeze") => freeze::run(word(1).expect("freeze FILE")),
         _ => {
             let number =
                 |i: usize, usual: u64| word(i).map_or(usual, |s| s.parse().expect("a number"));
