@@ -7,7 +7,7 @@ use mathlib.Core.Path.{_≡_, refl, sym, ap, ap₂, subst, _∙_}
 use Prim.Native.Nat.{ℕ, zero, suc, _+_, _-_, _≤_, _<_}
 use native.Mathlib.Nat.{not-suc-le-zero}
 use native.Mathlib.Omega.{arith}
-use lib.ListN.{length, take, drop, getD, length-append, length-take, length-drop}
+use lib.ListN.{length, take, drop, getD}
 use lib.Seq.{drop-cons}
 use Rattle.format.specs.Edit.{Edit, anyOutside, apply, made, noEntry, outside}
 use Rattle.format.specs.Edit.Edit.{Insert, Update, Keep}
@@ -17,6 +17,7 @@ use Rattle.facts.proofs.EntryLaws.{getD-each, length-each}
 use Rattle.rows.specs.Rows.{rowEntry, rowKey, rowSource, rows}
 use Rattle.rows.proofs.RowsLaws.{length-rows, rows-at}
 use Rattle.edits.specs.Apply.{sources, sourcesOf, upFrom}
+use Rattle.edits.proofs.ApplyLaws.{length-sourcesOf}
 
 -- each of the entries whose source is a position of b has the key there
 abbrev AllSourced : List Entry → List Entry → List ℕ → Type 0
@@ -43,18 +44,6 @@ module _ (b : List Entry) where
 
   -- ---- the entries of edits
 
-  length-upFrom : (i n : ℕ) → length (upFrom i n) ≡ n
-  unfolding upFrom
-  length-upFrom i zero = refl
-  length-upFrom i (suc n) = ap suc (length-upFrom (suc i) n)
-
-  length-made : (e : Edit) → outside (length b) e ≡ false → length (made b e) ≡ length (sourcesOf e)
-  unfolding made sourcesOf
-  length-made (Insert k p) o = refl
-  length-made (Update i p) o = refl
-  length-made (Keep s e) o =
-      omega (arith, outside-keep (length b) s e o, length-take (e - s) (drop s b), length-drop s b, length-upFrom s (e - s))
-
   sourced-made : (e : Edit) → length b ≤ 1023 → outside (length b) e ≡ false → AllSourced b (made b e) (sourcesOf e)
   unfolding made sourcesOf
   sourced-made (Insert k p) few o = (λ l. absurd (omega arith), tt)
@@ -67,7 +56,7 @@ module _ (b : List Entry) where
   sourced-apply [] few o = tt
   sourced-apply (e ∷ es) few o =
       sourced-append (made b e) (apply b es) (sourcesOf e) (sources es)
-      (length-made e (anyOutside-head (length b) e es o))
+      (length-sourcesOf b e (anyOutside-head (length b) e es o))
       (sourced-made e few (anyOutside-head (length b) e es o))
       (sourced-apply es few (anyOutside-tail (length b) e es o))
 

@@ -140,20 +140,24 @@ run-paired base n i (suc m) h =
     ∙ ap (λ (es : List Entry). paired (take (suc m) es) (i ∷ upFrom (suc i) m))
     (sym (drop-cons (rows n base) i noEntry l))
 
+-- an edit makes an entry for each of its sources
+pub length-sourcesOf : (b : List Entry) (e : Edit) → outside (length b) e ≡ false
+    → length (made b e) ≡ length (sourcesOf e)
+unfolding made sourcesOf
+length-sourcesOf b (Insert k p) o = refl
+length-sourcesOf b (Update i p) o = refl
+length-sourcesOf b (Keep s e) o =
+    omega (
+      arith,
+      outside-keep (length b) s e o,
+      length-take (e - s) (drop s b),
+      length-drop s b,
+      length-upFrom s (e - s),
+    )
+
 module _ (base : List ℕ) (n : ℕ) where
   length-made : (e : Edit) → outside n e ≡ false → length (made (rows n base) e) ≡ length (sourcesOf e)
-  unfolding made sourcesOf
-  length-made (Insert k p) o = refl
-  length-made (Update i p) o = refl
-  length-made (Keep s e) o =
-      omega (
-        arith,
-        outside-keep n s e o,
-        length-take (e - s) (drop s (rows n base)),
-        length-drop s (rows n base),
-        length-rows n base,
-        length-upFrom s (e - s),
-      )
+  length-made e o = length-sourcesOf (rows n base) e (ap (λ (k : ℕ). outside k e) (length-rows n base) ∙ o)
 
   itemsOf-paired : (e : Edit) → outside n e ≡ false → itemsOf base e ≡ paired (made (rows n base) e) (sourcesOf e)
   unfolding itemsOf made sourcesOf paired rowEntry
