@@ -21,19 +21,19 @@ extern "C" {
 #define TRUSSEMBER_PAGE_SIZE 4096
 #define TRUSSEMBER_UNDO_SIZE 24688
 
-typedef struct {
+typedef struct trussember_checked {
     uint64_t refusal, number, n, m, q, bits;
 } trussember_checked;
 
-typedef struct {
+typedef struct trussember_entry_read {
     uint64_t refusal, pointer;
 } trussember_entry_read;
 
-typedef struct {
+typedef struct trussember_built {
     uint64_t refusal, n, m, q, bits, undo;
 } trussember_built;
 
-typedef struct {
+typedef struct trussember_size {
     uint64_t refusal, value;
 } trussember_size;
 

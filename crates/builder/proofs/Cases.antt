@@ -7,6 +7,7 @@ use mathlib.Core.List.{List, [], _∷_, _++_}
 use mathlib.Core.Path.{_≡_, refl}
 use Prim.Native.Nat.{ℕ, _*_, _^_}
 use Rattle.format.specs.Normal.{pageUnder}
+use Rattle.format.specs.Page.{each}
 use Rattle.format.proofs.Samples.{blank, hex, zeros}
 use Rattle.rows.specs.Rows.{rows}
 use Rattle.parts.specs.Parts.{rowLengths}
@@ -53,15 +54,16 @@ pub record Cases : Type 0 where
   pub page-empty : writable (zeros 4096) three 0 0 0 ≡ false
   pub prefix-256 : writable (zeros 4096) three 1 1 256 ≡ true
   pub prefix-257 : writable (zeros 4096) three 1 1 257 ≡ false
-  -- 84 has its bits from the first of these pages; a separator with a zero bit at its end has them cut off.
-  pub kept-84 : kept (pageUnder 7 (rows 3 three) 3 1) 3 3 three 3 1 1 ≡ true
+  -- All three have their bits from the first of these pages, as one run; a separator with a zero bit at its end has it
+  -- cut off, and does not move as it stands.
+  pub all-kept : each 3 (kept (pageUnder 7 (rows 3 three) 3 1) 3 3 three 3 1) ≡ true ∷ true ∷ true ∷ []
   pub bits-kept : overBits (pageUnder 7 (rows 3 three) 3 1) 3 3 three 3 1 1 ≡ 0 ∷ 0 ∷ 0 ∷ 0 ∷ 1 ∷ []
   pub kept-padded : kept padded 1 1 one 1 0 0 ≡ false
   pub bits-padded : overBits padded 1 1 one 1 0 0 ≡ 1 ∷ []
   pub page-padded : pageOver 7 padded 1 1 0 one 1 1 0 ≡ pageUnder 7 (rows 1 one) 1 0
 
 pub cases : Cases
-unfolding rowLengths ownBits pageUnder rows writable kept overBits pageOver hex three one padded
+unfolding each rowLengths ownBits pageUnder rows writable kept overBits pageOver hex three one padded
 cases =
     record {
       lengths-5 = refl;
@@ -77,7 +79,7 @@ cases =
       page-empty = refl;
       prefix-256 = refl;
       prefix-257 = refl;
-      kept-84 = refl;
+      all-kept = refl;
       bits-kept = refl;
       kept-padded = refl;
       bits-padded = refl;
