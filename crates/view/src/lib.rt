@@ -50,7 +50,7 @@ impl<'a> BranchNodeView<'a> {
 
 // Entry `index` of a page, through its view.
 pub fn read_entry(page: &[u8], index: usize) -> Seen
-    ensures answer { λ r. ⌜ seenAnswer r ≡ readEntry (now (page .entry)) index ⌝ }
+    ensures answer { λ s. ⌜ seenAnswer s ≡ readEntry (now (page .entry)) index ⌝ }
 {
     BranchNodeView::from_slice(page).entry(index)
 }
