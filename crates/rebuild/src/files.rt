@@ -42,14 +42,26 @@ fn read_path(path: &[u8], buf: &mut [u8]) -> Got
     Got { is, len }
 }
 
+// Whether an argument of n bytes, just read, can be a file's name; if not, it is said why.
+fn is_name(n: usize) -> bool {
+    if os::errno() != 0 {
+        os::fail(b"argument");
+        return false;
+    }
+    if n == 0 {
+        io::write_all(STDERR_FILENO, b"(empty): not a file's name\n");
+        return false;
+    }
+    true
+}
+
 // Reads the file that argument i names to the start of buf, as far as that has room.
 pub fn read(i: usize, buf: &mut [u8]) -> Got
     ensures { λ r. ⌜ r .len ≤ length (now (buf .exit)) ⌝ }
 {
     let mut path = io::buffer();
     let n = os::arg(i, &mut path);
-    if os::errno() != 0 {
-        os::fail(b"argument");
+    if !is_name(n) {
         return Got { is: false, len: 0 };
     }
     read_path(&path[..n], buf)
@@ -77,8 +89,7 @@ fn write_path(path: &[u8], bytes: &[u8]) -> bool {
 pub fn write(i: usize, bytes: &[u8]) -> bool {
     let mut path = io::buffer();
     let n = os::arg(i, &mut path);
-    if os::errno() != 0 {
-        os::fail(b"argument");
+    if !is_name(n) {
         return false;
     }
     write_path(&path[..n], bytes)
@@ -93,9 +104,13 @@ pub fn same_names(i: usize, j: usize) -> bool {
     check::same(&a[..n], &b[..m])
 }
 
-// Writes argument i to standard error.
+// Writes argument i to standard error; for an empty one, that it is.
 pub fn name(i: usize) {
     let mut path = io::buffer();
     let n = os::arg(i, &mut path);
+    if n == 0 {
+        io::write_all(STDERR_FILENO, b"(empty)");
+        return;
+    }
     io::write_all(STDERR_FILENO, &path[..n]);
 }
