@@ -1,0 +1,53 @@
+// A page, entry by entry, through its view.
+use crate::say;
+use libc::STDOUT_FILENO;
+use node::reader;
+use node::reader::Checked;
+use node::reader::Header;
+use view::Seen;
+
+// How many bits entry i stores.
+fn stored(page: &[u8], i: usize) -> usize {
+    if i == 0 {
+        return reader::cell(page, 0);
+    }
+    words::over(reader::cell(page, i), reader::cell(page, i - 1))
+}
+
+// Entry i: its index, compressed or plain, its stored bits, its key and its pointer.
+fn line(page: &[u8], h: Header, i: usize) {
+    match view::read_entry(page, i) {
+        Seen::Refused(why) => say::refused(2, why),
+        Seen::Entry(key, pointer) => {
+            io::print_decimal(STDOUT_FILENO, i as u64);
+            if i < h.m {
+                say::field(b" compressed ", stored(page, i) as u64);
+            } else {
+                say::field(b" plain ", stored(page, i) as u64);
+            }
+            io::write_all(STDOUT_FILENO, b" ");
+            say::key(key);
+            say::field(b" ", pointer);
+            io::write_all(STDOUT_FILENO, b"\n");
+        }
+    }
+}
+
+fn lines(page: &[u8], h: Header) {
+    let n = h.n;
+    for i in 0..n {
+        line(page, h, i);
+    }
+}
+
+// A line for the header, and one for each entry; or why the page is refused.
+pub fn page(page: &[u8]) {
+    match reader::check(page) {
+        Checked::Refused(why) => say::refused(2, why),
+        Checked::Page(h) => {
+            say::page(h.number, h.n, h.m, h.q, h.bits);
+            io::write_all(STDOUT_FILENO, b"\n");
+            lines(page, h);
+        }
+    }
+}

@@ -1,0 +1,2 @@
+-- What the contracts of `view` cite, as definitions.
+pub mod Seen
