@@ -61,7 +61,7 @@ module _ (d : List ℕ) (i : ℕ) (h : i + 8 ≤ length d) where
 -- ---- bits moved inside eight bytes
 
 -- n bits of the word v, from bit j of the word x on: first all of v, then x again
-joined-paste : (x v w y j n : ℕ) (z : List ℕ) → j + n ≤ 64 → bits 64 v ≡ fill 64 z → n ≤ length z
+pub joined-paste : (x v w y j n : ℕ) (z : List ℕ) → j + n ≤ 64 → bits 64 v ≡ fill 64 z → n ≤ length z
     → bits 64 w ≡ take 64 (take j (bits 64 x) ++ bits 64 v)
     → bits 64 y ≡ take (j + n) (bits 64 w) ++ drop (j + n) (bits 64 x)
     → bits 64 y ≡ paste (bits 64 x) j z n
