@@ -8,11 +8,11 @@ use Prim.Native.Nat.{ℕ, _+_, _-_, _*_, _/_, _%_, _≤_, _<_}
 use native.Mathlib.Omega.{arith}
 use borrow.Author.Tests.{lt-ltb}
 use lib.ListN.{length, take, drop, replicate, length-drop, take-append-drop}
-use lib.Seq.{drop-drop, length-take-le, paste, take-append-add, take-take}
+use lib.Seq.{drop-drop, length-take-le, paste, take-all, take-append-add, take-take}
 use Rattle.format.specs.Bits.{bits, bitsOf, fill}
 use Rattle.facts.proofs.BitsLaws.{bitsOf-append, fill-take, length-bits, length-bitsOf, take-fill}
-use Rattle.words.specs.Words.{wordBytes, withWord, windowBits}
-use Rattle.words.proofs.WordsLaws.{withWord-in, bitsOf-wordBytes}
+use Rattle.words.specs.Words.{wordBytes, withWord, windowBits, wordBits}
+use Rattle.words.proofs.WordsLaws.{withWord-in, bitsOf-wordBytes, wordBits-in}
 use Rattle.bit_ops.specs.Runs.{Moved}
 use Rattle.bit_ops.proofs.FieldLaws.{bitsOf-take, bitsOf-drop, paste-inside}
 
@@ -78,7 +78,7 @@ joined-paste x v w y j n z l ev lz ew ey =
 
 pub moved-in-word : (d s : List ℕ) (i j b g n x v w y : ℕ) (d′ : List ℕ) → j + n ≤ 64 → i + 8 ≤ length d → g < 8
     → 8 * b + g + n ≤ 8 * length s
-    → bits 64 x ≡ fill 64 (drop (8 * i) (bitsOf d))
+    → bits 64 x ≡ wordBits d i
     → bits 64 v ≡ fill 64 (drop (8 * b + g % 8) (bitsOf s))
     → bits 64 w ≡ take 64 (take j (bits 64 x) ++ bits 64 v)
     → bits 64 y ≡ take (j + n) (bits 64 w) ++ drop (j + n) (bits 64 x)
@@ -90,18 +90,31 @@ moved-in-word d s i j b g n x v w y d′ l h hg hs ex ev ew ey e =
     let lz : n ≤ length z = omega (arith, length-drop (8 * b + g) (bitsOf s), length-bitsOf s) in
     record {
       moved =
-          ap bitsOf e ∙ word-pasted d i h x y j n z ex l
+          ap bitsOf e ∙ word-pasted d i h x y j n z (ex ∙ wordBits-in d i h) l
           (joined-paste x v w y j n z l (ev ∙ ap (λ (k : ℕ). fill 64 (drop k (bitsOf s))) m) lz ew ey);
     }
 
 -- ---- a word moved
+
+pub word-stored : (d : List ℕ) (i x : ℕ) → i + 8 ≤ length d
+    → bitsOf (withWord d i x) ≡ paste (bitsOf d) (8 * i) (bits 64 x) 64
+unfolding P Q
+word-stored d i x h =
+    let B : List ℕ = bitsOf d in
+    let a : 8 * (i + 8) ≡ 8 * i + 64 = omega arith in
+    stored-bits d i h x
+    ∙ ap₂ (λ (p q : List ℕ). p ++ (bits 64 x ++ q)) (bitsOf-take i d (omega arith))
+    (bitsOf-drop (i + 8) d h ∙ ap (λ (n : ℕ). drop n B) a)
+    ∙ sym (append-assoc (take (8 * i) B) (bits 64 x) (drop (8 * i + 64) B))
+    ∙ ap (λ (l : List ℕ). take (8 * i) B ++ l ++ drop (8 * i + 64) B)
+    (sym (take-all 64 (bits 64 x) (omega (arith, length-bits 64 x))))
 
 pub moved-word : (d s : List ℕ) (i b g x : ℕ) (d′ : List ℕ) → i + 8 ≤ length d → g < 8
     → 8 * b + g + 64 < 8 * length s
     → bits 64 x ≡ windowBits s (8 * b + g % 8)
     → d′ ≡ withWord d i x
     → Moved d (8 * i) s (8 * b + g) 64 d′
-unfolding windowBits P Q
+unfolding windowBits
 moved-word d s i b g x d′ h hg hs ex e =
     let f : ℕ = 8 * b + g in
     let B : List ℕ = bitsOf d in
@@ -109,15 +122,12 @@ moved-word d s i b g x d′ h hg hs ex e =
     let m : 8 * b + g % 8 ≡ f = omega arith in
     let k : f / 8 + 8 < length s = omega arith in
     let lz : 64 ≤ length z = omega (arith, length-drop f (bitsOf s), length-bitsOf s) in
-    let a : 8 * (i + 8) ≡ 8 * i + 64 = omega arith in
     let v : bits 64 x ≡ take 64 z =
     ex ∙ ap (windowBits s) m
     ∙ ap (λ (t : Bool). cond t (fill 64 z) (replicate 64 0)) (lt-ltb (f / 8 + 8) (length s) k) ∙ fill-take 64 z lz in
     record {
       moved =
-          ap bitsOf e ∙ stored-bits d i h x
-          ∙ ap₂ (λ (p q : List ℕ). p ++ (bits 64 x ++ q)) (bitsOf-take i d (omega arith))
-          (bitsOf-drop (i + 8) d h ∙ ap (λ (n : ℕ). drop n B) a)
-          ∙ ap (λ (l : List ℕ). take (8 * i) B ++ (l ++ drop (8 * i + 64) B)) v
-          ∙ sym (append-assoc (take (8 * i) B) (take 64 z) (drop (8 * i + 64) B));
+          ap bitsOf e ∙ word-stored d i x h
+          ∙ ap (λ (l : List ℕ). take (8 * i) B ++ l ++ drop (8 * i + 64) B)
+          (take-all 64 (bits 64 x) (omega (arith, length-bits 64 x)) ∙ v);
     }

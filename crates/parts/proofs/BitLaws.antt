@@ -11,7 +11,7 @@ use mir.Val.{Fits}
 use lib.ListN.{getD, length, take, drop, set, length-set, replicate, length-replicate, replicate-append-replicate}
 use lib.ListN.{length-append, length-drop}
 use borrow.Author.Tests.{le-leb, lt-leb, ne-eqb}
-use lib.Seq.{drop-append-le, drop-at, paste, paste-zero, take-all, take-append-le, take-paste, take-suc-set}
+use lib.Seq.{drop-append-add, drop-append-le, drop-at, drop-drop, paste, paste-zero, take-all, take-append-add, take-append-le, take-paste, take-suc-set}
 use Rattle.format.specs.Answer.{afterwards, first, unless}
 use Rattle.format.specs.Bits.{bits, bitsOf, fill, pack}
 use Rattle.format.specs.Key.{IsKey}
@@ -24,11 +24,11 @@ use Rattle.facts.proofs.RangesLaws.{bitsOf-bitsCopied}
 use Rattle.bit_ops.specs.Calls.{Copied}
 use Rattle.bit_ops.proofs.FieldLaws.{bitsOf-take}
 use Rattle.bit_ops.proofs.RunLaws.{end-inside, paste-add}
-use Rattle.bit_ops.proofs.WordLaws.{word-pasted, joined-paste}
-use Rattle.words.specs.Words.{withWord, wordBytes}
+use Rattle.bit_ops.proofs.WordLaws.{word-pasted, word-stored, joined-paste}
+use Rattle.words.specs.Words.{withWord, wordBytes, wordBits}
 use Rattle.words.proofs.NumberLaws.{bits-split}
 use Rattle.words.proofs.WindowLaws.{moved-bits}
-use Rattle.words.proofs.WordsLaws.{withWord-in, length-withWord, length-wordBytes, bitsOf-wordBytes}
+use Rattle.words.proofs.WordsLaws.{withWord-in, length-withWord, bitsOf-wordBytes, wordBits-in}
 use Rattle.rows.specs.declared.key.Key.{Key}
 use Rattle.rows.specs.Keys.{keyBits}
 use Rattle.rows.proofs.KeysLaws.{isKey-keyBits, keyBits-words}
@@ -84,14 +84,14 @@ withKey-inside d at k from n y hd hk =
 
 -- into eight bytes
 pub in-word : (d : List ℕ) (i j n x y w z : ℕ) (d′ : List ℕ) → j + n ≤ 64 → i + 8 ≤ length d
-    → bits 64 y ≡ fill 64 (drop (8 * i) (bitsOf d))
+    → bits 64 y ≡ wordBits d i
     → bits 64 w ≡ take 64 (take j (bits 64 y) ++ bits 64 x)
     → bits 64 z ≡ take (j + n) (bits 64 w) ++ drop (j + n) (bits 64 y)
     → d′ ≡ withWord d i z
     → bitsOf d′ ≡ paste (bitsOf d) (8 * i + j) (bits 64 x) n
 in-word d i j n x y w z d′ l h ey ew ez e =
     let f : bits 64 x ≡ fill 64 (bits 64 x) = sym (fill-exact (bits 64 x) 64 (length-bits 64 x)) in
-    ap bitsOf e ∙ word-pasted d i h y z j n (bits 64 x) ey l
+    ap bitsOf e ∙ word-pasted d i h y z j n (bits 64 x) (ey ∙ wordBits-in d i h) l
     (joined-paste y x w z j n (bits 64 x) l f (omega (arith, length-bits 64 x)) ew ez)
 
 -- into eight, and the rest behind them
@@ -135,38 +135,96 @@ by-bytes d at n x w r d′ hn h e c =
     ∙ ap (λ (b : List ℕ). paste (bitsOf d) at b n)
     (ap bitsOf (z ∙ append-nil (wordBytes x)) ∙ bitsOf-wordBytes x)
 
--- four words, one behind the other
-paste-append : (b : List ℕ) (at : ℕ) (s t : List ℕ) (n m : ℕ) → length s ≡ n → (at + n) + m ≤ length b
-    → paste (paste b at s n) (at + n) t m ≡ paste b at (s ++ t) (n + m)
-paste-append b at s t n m ls h =
-    let u : take n (s ++ t) ≡ take n s = take-append-le n s t (omega arith) in
-    let v : drop n (s ++ t) ≡ t = drop-at s t n ls in
-    sym (ap₂ (λ (x y : List ℕ). paste (take at b ++ x ++ drop (at + n) b) (at + n) y m) u v)
-    ∙ paste-add b at (s ++ t) n m h (omega (arith, length-append s t))
+-- a key's words, each over two
 
-pub four-words : (d : List ℕ) (at : ℕ) (k : Key) (d₁ d₂ d₃ d₄ : List ℕ) → at + 256 ≤ 8 * length d
-    → bitsOf d₁ ≡ paste (bitsOf d) at (bits 64 (k .a)) 64
-    → bitsOf d₂ ≡ paste (bitsOf d₁) (at + 64) (bits 64 (k .b)) 64
-    → bitsOf d₃ ≡ paste (bitsOf d₂) (at + 128) (bits 64 (k .c)) 64
-    → bitsOf d₄ ≡ paste (bitsOf d₃) (at + 192) (bits 64 (k .d)) 64
-    → bitsOf d₄ ≡ paste (bitsOf d) at (keyBits k) 256
-four-words d at k d₁ d₂ d₃ d₄ h e₁ e₂ e₃ e₄ =
+-- 64 bits over the end of a word
+over-two : (u v : ℕ) (r : List ℕ) (g y : ℕ) → g ≤ 64 → bits 64 y ≡ drop g (bits 64 u) ++ take g (bits 64 v)
+    → take 64 (bits 64 y) ≡ take 64 (drop g (bits 64 u ++ (bits 64 v ++ r)))
+over-two u v r g y h e =
+    let U : List ℕ = bits 64 u in
+    let W : List ℕ = bits 64 v in
+    let lu : length (drop g U) ≡ 64 - g = length-drop g U ∙ ap (λ (m : ℕ). m - g) (length-bits 64 u) in
+    let f : 64 ≡ length (drop g U) + g = omega arith in
+    take-all 64 (bits 64 y) (omega (arith, length-bits 64 y)) ∙ e
+    ∙ sym (ap (take 64) (drop-append-le g U (W ++ r) (omega (arith, length-bits 64 u)))
+    ∙ ap (λ (m : ℕ). take m (drop g U ++ (W ++ r))) f ∙ take-append-add (drop g U) (W ++ r) g
+    ∙ ap (λ (l : List ℕ). drop g U ++ l) (take-append-le g W r (omega (arith, length-bits 64 v))))
+
+-- m bits more of s, out of any list that begins with them
+paste-more : (b : List ℕ) (at : ℕ) (s t : List ℕ) (n m at′ : ℕ) (c c′ : List ℕ) → c ≡ paste b at s n
+    → c′ ≡ paste c at′ t m → at′ ≡ at + n → take m t ≡ take m (drop n s) → (at + n) + m ≤ length b → n ≤ length s
+    → c′ ≡ paste b at s (n + m)
+paste-more b at s t n m at′ c c′ e e′ ea et hb hs =
+    e′ ∙ ap₂ (λ (l : List ℕ) (k : ℕ). paste l k t m) e ea
+    ∙ ap (λ (l : List ℕ). take (at + n) (paste b at s n) ++ l ++ drop ((at + n) + m) (paste b at s n)) et
+    ∙ paste-add b at s n m hb hs
+
+pub whole-key : (d : List ℕ) (i h : ℕ) (k : Key) (y₁ y₂ y₃ y₄ : ℕ) (d₁ d₂ d₃ d₄ d₅ : List ℕ) → h < 8
+    → i + 40 ≤ length d
+    → bitsOf d₁ ≡ paste (bitsOf d) (8 * i + h) (bits 64 (k .a)) (64 - h)
+    → bits 64 y₁ ≡ drop (64 - h) (bits 64 (k .a)) ++ take (64 - h) (bits 64 (k .b))
+    → d₂ ≡ withWord d₁ (i + 8) y₁
+    → bits 64 y₂ ≡ drop (64 - h) (bits 64 (k .b)) ++ take (64 - h) (bits 64 (k .c))
+    → d₃ ≡ withWord d₂ (i + 16) y₂
+    → bits 64 y₃ ≡ drop (64 - h) (bits 64 (k .c)) ++ take (64 - h) (bits 64 (k .d))
+    → d₄ ≡ withWord d₃ (i + 24) y₃
+    → bits 64 y₄ ≡ drop (64 - h) (bits 64 (k .d)) ++ take (64 - h) (bits 64 0)
+    → bitsOf d₅ ≡ paste (bitsOf d₄) (8 * (i + 32) + 0) (bits 64 y₄) h
+    → length d₁ ≡ length d
+    → bitsOf d₅ ≡ paste (bitsOf d) (8 * i + h) (keyBits k) 256
+whole-key d i h k y₁ y₂ y₃ y₄ d₁ d₂ d₃ d₄ d₅ hh hd e₁ f₁ e₂ f₂ e₃ f₃ e₄ f₄ e₅ l₁ =
     let X : List ℕ = bitsOf d in
     let A : List ℕ = bits 64 (k .a) in
     let B : List ℕ = bits 64 (k .b) in
     let C : List ℕ = bits 64 (k .c) in
     let D : List ℕ = bits 64 (k .d) in
+    let S : List ℕ = A ++ (B ++ (C ++ D)) in
+    let g : ℕ = 64 - h in
+    let at : ℕ = 8 * i + h in
     let la : length A ≡ 64 = length-bits 64 (k .a) in
-    let lb : length (A ++ B) ≡ 128 = length-append A B ∙ ap₂ _+_ la (length-bits 64 (k .b)) in
-    let lc : length ((A ++ B) ++ C) ≡ 192 = length-append (A ++ B) C ∙ ap₂ _+_ lb (length-bits 64 (k .c)) in
+    let lb : length B ≡ 64 = length-bits 64 (k .b) in
+    let lc : length C ≡ 64 = length-bits 64 (k .c) in
+    let ld : length D ≡ 64 = length-bits 64 (k .d) in
+    let ls : length S ≡ 256 =
+    omega (arith, length-append A (B ++ (C ++ D)), length-append B (C ++ D), length-append C D) in
     let lx : length X ≡ 8 * length d = length-bitsOf d in
-    let p₂ : bitsOf d₂ ≡ paste X at (A ++ B) 128 =
-    e₂ ∙ ap (λ (l : List ℕ). paste l (at + 64) B 64) e₁ ∙ paste-append X at A B 64 64 la (omega arith) in
-    let p₃ : bitsOf d₃ ≡ paste X at ((A ++ B) ++ C) 192 =
-    e₃ ∙ ap (λ (l : List ℕ). paste l (at + 128) C 64) p₂ ∙ paste-append X at (A ++ B) C 128 64 lb (omega arith) in
-    e₄ ∙ ap (λ (l : List ℕ). paste l (at + 192) D 64) p₃ ∙ paste-append X at ((A ++ B) ++ C) D 192 64 lc (omega arith)
-    ∙ ap (λ (l : List ℕ). paste X at l 256)
-    (append-assoc (A ++ B) C D ∙ append-assoc A B (C ++ D) ∙ sym (keyBits-words k))
+    let l₂ : length d₂ ≡ length d = ap length e₂ ∙ length-withWord d₁ (i + 8) y₁ ∙ l₁ in
+    let l₃ : length d₃ ≡ length d = ap length e₃ ∙ length-withWord d₂ (i + 16) y₂ ∙ l₂ in
+    -- what is left of S behind each word
+    let s₁ : drop (g + 64) S ≡ drop g (B ++ (C ++ D)) = go g A (B ++ (C ++ D)) la in
+    let s₂ : drop ((g + 64) + 64) S ≡ drop g (C ++ D) =
+    sym (drop-drop 64 (g + 64) S) ∙ ap (drop 64) s₁ ∙ drop-drop 64 g (B ++ (C ++ D)) ∙ go g B (C ++ D) lb in
+    let s₃ : drop (((g + 64) + 64) + 64) S ≡ drop g D =
+    sym (drop-drop 64 ((g + 64) + 64) S) ∙ ap (drop 64) s₂ ∙ drop-drop 64 g (C ++ D) ∙ go g C D lc in
+    let nil : C ++ D ≡ C ++ (D ++ []) = ap (λ (l : List ℕ). C ++ l) (sym (append-nil D)) in
+    let t₁ : take g A ≡ take g S = sym (take-append-le g A (B ++ (C ++ D)) (omega arith)) in
+    let p₁ : bitsOf d₁ ≡ paste X at S g =
+    e₁ ∙ ap (λ (l : List ℕ). take at X ++ l ++ drop (at + g) X) t₁ in
+    let p₂ : bitsOf d₂ ≡ paste X at S (g + 64) =
+    paste-more X at S (bits 64 y₁) g 64 (8 * (i + 8)) (bitsOf d₁) (bitsOf d₂) p₁
+    (ap bitsOf e₂ ∙ word-stored d₁ (i + 8) y₁ (omega arith)) (omega arith)
+    (over-two (k .a) (k .b) (C ++ D) g y₁ (omega arith) f₁) (omega arith) (omega arith) in
+    let p₃ : bitsOf d₃ ≡ paste X at S ((g + 64) + 64) =
+    paste-more X at S (bits 64 y₂) (g + 64) 64 (8 * (i + 16)) (bitsOf d₂) (bitsOf d₃) p₂
+    (ap bitsOf e₃ ∙ word-stored d₂ (i + 16) y₂ (omega arith)) (omega arith)
+    (over-two (k .b) (k .c) D g y₂ (omega arith) f₂ ∙ ap (take 64) (sym s₁)) (omega arith) (omega arith) in
+    let p₄ : bitsOf d₄ ≡ paste X at S (((g + 64) + 64) + 64) =
+    paste-more X at S (bits 64 y₃) ((g + 64) + 64) 64 (8 * (i + 24)) (bitsOf d₃) (bitsOf d₄) p₃
+    (ap bitsOf e₄ ∙ word-stored d₃ (i + 24) y₃ (omega arith)) (omega arith)
+    (over-two (k .c) (k .d) [] g y₃ (omega arith) f₃ ∙ ap (λ (l : List ℕ). take 64 (drop g l)) (sym nil)
+    ∙ ap (take 64) (sym s₂)) (omega arith) (omega arith) in
+    let lg : length (drop g D) ≡ h = omega (arith, length-drop g D) in
+    let t₅ : take h (bits 64 y₄) ≡ take h (drop (((g + 64) + 64) + 64) S) =
+    ap (take h) f₄ ∙ take-append-le h (drop g D) (take g (bits 64 0)) (omega arith) ∙ ap (take h) (sym s₃) in
+    let n : (((g + 64) + 64) + 64) + h ≡ 256 = omega arith in
+    paste-more X at S (bits 64 y₄) (((g + 64) + 64) + 64) h (8 * (i + 32) + 0) (bitsOf d₄) (bitsOf d₅) p₄ e₅
+    (omega arith) t₅ (omega arith) (omega arith)
+    ∙ ap₂ (paste X at) (sym (keyBits-words k)) n
+  where
+    go : (g : ℕ) (a r : List ℕ) → length a ≡ 64 → drop (g + 64) (a ++ r) ≡ drop g r
+    go g a r l =
+        let e : g + 64 ≡ length a + g = omega arith in
+        ap (λ (m : ℕ). drop m (a ++ r)) e ∙ drop-append-add a r g
 
 module _ (d : List ℕ) (at n x : ℕ) where
   -- what `put_first` leaves: of no bits,
@@ -273,11 +331,13 @@ module _ (d : List ℕ) (at : ℕ) (k : Key) (d′ : List ℕ) where
       go false q = rw q
 
   -- all of them
-  pub key-whole : (from n r : ℕ) → from ≡ 0 → n ≡ 256 → r ≡ length d - 32 → at / 8 < r
-      → bitsOf d′ ≡ paste (bitsOf d) at (keyBits k) 256
+  pub key-whole : (from n r : ℕ) → from ≡ 0 → n ≡ 256 → r ≡ length d - 39 → at / 8 < r
+      → bitsOf d′ ≡ paste (bitsOf d) (8 * (at / 8) + at % 8) (keyBits k) 256
       → length d′ ≡ length d → ((i : ℕ) → Fits w8 (getD d′ i 0)) → d′ ≡ withKey d at (keyBits k) from n
   key-whole from n r ef en er h e l b =
-      rw (ef, en) (packed d′ (paste (bitsOf d) at (keyBits k) 256) (at-below 256 d′ (λ i. omega (arith, b i))) e
+      let a : 8 * (at / 8) + at % 8 ≡ at = omega arith in
+      rw (ef, en) (packed d′ (paste (bitsOf d) at (keyBits k) 256) (at-below 256 d′ (λ i. omega (arith, b i)))
+      (e ∙ ap (λ (p : ℕ). paste (bitsOf d) p (keyBits k) 256) a)
       ∙ ap (λ (x : ℕ). pack x (paste (bitsOf d) at (keyBits k) 256)) l
       ∙ sym (withKey-inside d at (keyBits k) 0 256 (isKey-keyBits k) (omega arith) (omega arith)))
 

@@ -67,16 +67,17 @@ fn put_first(d: &mut [u8], at: usize, x: u64, n: usize)
     put_word(d, at, x, n);
 }
 
-// A key's 256 bits into d from the bit `at` on, which d has.
-fn put_whole(d: &mut [u8], at: usize, k: Key)
-    requires { ⌜ (at < 2 ^ 63) × (at + 256 ≤ 8 * length (now d)) ⌝ }
+// A key's 256 bits into the 40 bytes from i on, which are there, from bit h on.
+fn put_whole(d: &mut [u8], i: usize, h: usize, k: Key)
+    requires { ⌜ (h < 8) × (i + 40 ≤ length (now d)) ⌝ }
     ensures written { λ _. ⌜ bitsOf (now (d .exit))
-        ≡ paste (bitsOf (now (d .entry))) at (keyBits k) 256 ⌝ }
+        ≡ paste (bitsOf (now (d .entry))) (8 * i + h) (keyBits k) 256 ⌝ }
 {
-    put_word(d, at, k.a, 64);
-    put_word(d, at + 64, k.b, 64);
-    put_word(d, at + 128, k.c, 64);
-    put_word(d, at + 192, k.d, 64);
+    put_in_word(d, i, h, k.a, 64 - h);
+    words::store(d, i + 8, words::across(k.a, k.b, h));
+    words::store(d, i + 16, words::across(k.b, k.c, h));
+    words::store(d, i + 24, words::across(k.c, k.d, h));
+    put_in_word(d, i + 32, 0, words::across(k.d, 0, h), h);
 }
 
 // Copies `len` bits of a key, by way of its bytes.
@@ -100,11 +101,9 @@ pub fn put_key(d: &mut [u8], at: usize, k: Key, from: usize, len: usize)
         }
         if len == 256 {
             if from == 0 {
-                if at / 8 < words::over(d.len(), 32) {
-                    if at < 0x8000000000000000 {
-                        put_whole(d, at, k);
-                        return;
-                    }
+                if at / 8 < words::over(d.len(), 39) {
+                    put_whole(d, at / 8, at % 8, k);
+                    return;
                 }
             }
         }

@@ -7,7 +7,7 @@
 use mathlib.Core.List.{List, [], _∷_, _++_, append-nil}
 use mathlib.Core.Path.{_≡_, refl, sym, ap, ap₂, subst, _∙_}
 use Prim.Native.Nat.{ℕ, zero, suc, _+_, _-_, _*_, _/_, _%_, _^_, _≤_, _<_}
-use native.Mathlib.Nat.{add-zero, mod-lt}
+use native.Mathlib.Nat.{add-zero, mod-lt, mul-assoc}
 use native.Mathlib.Numerals.{add-one}
 use native.Mathlib.Omega.{arith}
 use native.Mathlib.Decide.{decLe}
@@ -345,6 +345,54 @@ module _ (x k y : ℕ) (h : k < 64) (lx : x < 2 ^ 64) where
       ap₂ bits e spliced-is
       ∙ bits-cat k (64 - k) (x / 2 ^ (64 - k)) (y % 2 ^ (64 - k)) (mod-lt y (pow-pos (64 - k)))
       ∙ sym (ap₂ _++_ (first-are x k l) (rest-are k y h))
+
+-- the last k bits of x, and y behind them
+last-are : (x k : ℕ) → k ≤ 64 → drop (64 - k) (bits 64 x) ≡ bits k (x % 2 ^ k)
+last-are x k h =
+    let e : 64 ≡ (64 - k) + k = omega arith in
+    ap (λ (n : ℕ). drop (64 - k) (bits n x)) e ∙ ap (drop (64 - k)) (bits-split (64 - k) k x)
+    ∙ drop-at (bits (64 - k) (x / 2 ^ k)) (bits k (x % 2 ^ k)) (64 - k) (length-bits (64 - k) (x / 2 ^ k))
+
+twice-mod : (a : ℕ) → ((a % 2 ^ 64) * 2) % 2 ^ 64 ≡ (a * 2) % 2 ^ 64
+twice-mod a = omega arith
+
+module _ (x k y : ℕ) (h : k < 64) (ly : y < 2 ^ 64) where
+  moved-twice : ((x * 2 ^ (63 - k) % 2 ^ 64) * 2) % 2 ^ 64 ≡ (x % 2 ^ k) * 2 ^ (64 - k)
+  moved-twice =
+      let e : suc (63 - k) ≡ 64 - k = omega arith in
+      let d : (x * 2 ^ (63 - k)) * 2 ≡ x * 2 ^ suc (63 - k) = mul-assoc x (2 ^ (63 - k)) 2 ∙ ap (λ (n : ℕ). x * n) (omega arith) in
+      let f : 64 - (64 - k) ≡ k = omega arith in
+      twice-mod (x * 2 ^ (63 - k)) ∙ ap (λ (n : ℕ). n % 2 ^ 64) (d ∙ ap (λ (n : ℕ). x * 2 ^ n) e)
+      ∙ shl-64 x (64 - k) (omega arith) ∙ ap (λ (n : ℕ). (x % 2 ^ n) * 2 ^ (64 - k)) f
+
+  across-is : ((x * 2 ^ (63 - k) % 2 ^ 64) * 2) % 2 ^ 64 + y / 2 ^ k ≡ (x % 2 ^ k) * 2 ^ (64 - k) + y / 2 ^ k
+  across-is = ap (λ (n : ℕ). n + y / 2 ^ k) moved-twice
+
+  behind-lt : y / 2 ^ k < 2 ^ (64 - k)
+  behind-lt =
+      let e : 64 ≡ (64 - k) + k = omega arith in
+      shr-lt (64 - k) k (subst (λ (n : ℕ). y < 2 ^ n) e ly)
+
+  pub across-lt : ((x * 2 ^ (63 - k) % 2 ^ 64) * 2) % 2 ^ 64 + y / 2 ^ k < 2 ^ 64
+  across-lt =
+      let e : 64 ≡ k + (64 - k) = omega arith in
+      subst (λ (n : ℕ). n < 2 ^ 64) (sym across-is)
+      (subst (λ (n : ℕ). (x % 2 ^ k) * 2 ^ (64 - k) + y / 2 ^ k < n)
+      (sym (pow-add 2 k (64 - k)) ∙ ap (λ (n : ℕ). 2 ^ n) (sym e)) (digits-lt (mod-lt x (pow-pos k)) behind-lt))
+
+  pub across-bits : bits 64 (((x * 2 ^ (63 - k) % 2 ^ 64) * 2) % 2 ^ 64 + y / 2 ^ k)
+      ≡ drop (64 - k) (bits 64 x) ++ take (64 - k) (bits 64 y)
+  across-bits =
+      let e : 64 ≡ k + (64 - k) = omega arith in
+      let e′ : 64 ≡ (64 - k) + k = omega arith in
+      ap₂ bits e across-is ∙ bits-cat k (64 - k) (x % 2 ^ k) (y / 2 ^ k) behind-lt
+      ∙ sym (ap₂ _++_ (last-are x k (omega arith))
+      (ap (λ (n : ℕ). take (64 - k) (bits n y)) e′ ∙ take-bits (64 - k) k y))
+
+pub across-all : (x k y : ℕ) → 64 ≤ k → bits 64 x ≡ drop (64 - k) (bits 64 x) ++ take (64 - k) (bits 64 y)
+across-all x k y h =
+    let e : 64 - k ≡ 0 = omega arith in
+    rw e (sym (append-nil (bits 64 x)))
 
 pub spliced-all : (x k y : ℕ) → 64 ≤ k → bits 64 x ≡ take k (bits 64 x) ++ drop k (bits 64 y)
 spliced-all x k y h =

@@ -8,7 +8,7 @@ ghost use mathlib.Core.List.{_++_};
 ghost use Prim.Native.Nat.{_+_, _-_, _*_, _%_, _^_, _<_, _≤_};
 ghost use lib.ListN.{length, take, drop, getD};
 ghost use Rattle.format.specs.Bits.{bits, bitsOf, fill, pack, unle};
-ghost use Rattle.words.specs.Words.{windowBits, withWord};
+ghost use Rattle.words.specs.Words.{windowBits, withWord, wordBits};
 
 // a - b, or 0 where that is below zero.
 pub fn over(a: usize, b: usize) -> usize
@@ -158,17 +158,15 @@ pub fn at_bit(s: &[u8], start: usize, skip: usize) -> u64
     at_place(s, start / 8 + skip / 8 + h / 8, h)
 }
 
-// The 64 bits of the eight bytes from i on.
+// The 64 bits of the eight bytes from i on, where they are in the slice; else zeros.
 pub fn word_at(s: &[u8], i: usize) -> u64
-    ensures answer { λ r. ⌜ bits 64 r ≡ fill 64 (drop (8 * i) (bitsOf (now (s .entry)))) ⌝ }
+    ensures answer { λ r. ⌜ bits 64 r ≡ wordBits (now (s .entry)) i ⌝ }
 {
-    if i < over(s.len(), 7) {
+    let n = over(s.len(), 7);
+    if i < n {
         return eight(s, i);
     }
-    if s.len() <= i {
-        return 0;
-    }
-    near_end(s, i)
+    0
 }
 
 // The 64 bits from bit `start` on, where the nine bytes from there on are in the slice; else zeros.
@@ -213,14 +211,24 @@ pub fn joined(x: u64, j: usize, y: u64) -> u64
     x - (x << j >> j) + (y >> j)
 }
 
-// The first j bits of x, and those of y from bit j on.
-pub fn spliced(x: u64, j: usize, y: u64) -> u64
-    ensures answer { λ r. ⌜ bits 64 r ≡ take j (bits 64 x) ++ drop j (bits 64 y) ⌝ }
+// The first n bits of x, and those of y from bit n on.
+pub fn spliced(x: u64, n: usize, y: u64) -> u64
+    ensures answer { λ r. ⌜ bits 64 r ≡ take n (bits 64 x) ++ drop n (bits 64 y) ⌝ }
 {
-    if 64 <= j {
+    if 64 <= n {
         return x;
     }
-    x - (x << j >> j) + (y << j >> j)
+    x - (x << n >> n) + (y << n >> n)
+}
+
+// The last h bits of x, and the first of y behind them; all of x where h is 64 or more.
+pub fn across(x: u64, y: u64, h: usize) -> u64
+    ensures answer { λ r. ⌜ bits 64 r ≡ drop (64 - h) (bits 64 x) ++ take (64 - h) (bits 64 y) ⌝ }
+{
+    if 64 <= h {
+        return x;
+    }
+    (x << (63 - h) << 1) + (y >> h)
 }
 
 // The 32 last bits of x in the four bytes from i on, which are there, most significant first.

@@ -1,4 +1,4 @@
--- `words::word_at` meets its contract: the eight bytes are there, or zeros are read past the end.
+-- `words::word_at` meets its contract: the eight bytes are there, or zeros are read.
 -- Assumes nothing.
 use borrow.Author.Needs.{needs}
 use Rattle.words.proofs.word_at.Statement.{statement}
@@ -6,37 +6,37 @@ use Rattle.words.proofs.word_at.Tie as tie
 use Rattle.words.proofs.word_at.Reads as reads
 use Rattle.words.proofs.word_at.Lts as lts
 use Rattle.words.proofs.eight.Reads as eight-reads
-use Rattle.words.proofs.near_end.Reads as near-end-reads
 use Rattle.words.proofs.over.Reads as over-reads
 use mathlib.Core.List.{List}
-use mathlib.Core.Path.{_≡_}
-use Prim.Native.Nat.{ℕ, _+_, _*_, _≤_}
+use mathlib.Core.Path.{_≡_, sym, _∙_}
+use Prim.Native.Nat.{ℕ, _+_, _-_, _*_, _≤_, _<_}
 use native.Mathlib.Omega.{arith}
 use lib.ListN.{length, drop}
 use Rattle.format.specs.Bits.{bits, bitsOf, fill}
-use Rattle.words.proofs.WindowLaws.{bits-past}
+use Rattle.words.specs.Words.{wordBits}
+use Rattle.words.proofs.NumberLaws.{bits-zero}
+use Rattle.words.proofs.WordsLaws.{wordBits-in, wordBits-out}
 
-past : (s : List ℕ) (i : ℕ) → length s ≤ i → bits 64 0 ≡ fill 64 (drop (8 * i) (bitsOf s))
-past s i l = bits-past s (8 * i) i 0 l (omega arith)
+there : (s : List ℕ) (i n r : ℕ) → n ≡ length s - 7 → i < n → bits 64 r ≡ fill 64 (drop (8 * i) (bitsOf s))
+    → bits 64 r ≡ wordBits s i
+there s i n r e h er = er ∙ sym (wordBits-in s i (omega arith))
+
+past : (s : List ℕ) (i n : ℕ) → n ≡ length s - 7 → n ≤ i → bits 64 0 ≡ wordBits s i
+past s i n e h = bits-zero 64 ∙ sym (wordBits-out s i (omega arith))
+
+ruleset laws = (there, past)
 
 over-requires : tie.Need-over-requires
-over-requires c κs = search (needs, past)
+over-requires c κs = search (needs, laws)
 
 eight-requires : tie.Need-eight-requires
-eight-requires c κs = search (needs, past)
+eight-requires c κs = search (needs, laws)
 
 returns : tie.Need-returns
-returns c = search (needs, past)
+returns c = search (needs, laws)
 
 returns-2 : tie.Need-returns-2
-returns-2 c = search (needs, past)
-
-near-end-requires : tie.Need-near-end-requires
-near-end-requires c κs = search (needs, past)
-
-returns-3 : tie.Need-returns-3
-returns-3 c = search (needs, past)
+returns-2 c = search (needs, laws)
 
 pub word-at-spec : {M : Type 1} → statement M
-word-at-spec =
-    tie.close (tie.spec over-requires eight-requires returns returns-2 near-end-requires returns-3)
+word-at-spec = tie.close (tie.spec over-requires eight-requires returns returns-2)
