@@ -137,7 +137,7 @@ module _ (j n s x : ℕ) where
 
 -- ---- inside one byte of several
 
-paste-inside : (p x q s : List ℕ) (j n : ℕ) → j + n ≤ length x
+pub paste-inside : (p x q s : List ℕ) (j n : ℕ) → j + n ≤ length x
     → paste (p ++ (x ++ q)) (length p + j) s n ≡ p ++ (paste x j s n ++ q)
 paste-inside p x q s j n h =
     let t : take (length p + j) (p ++ (x ++ q)) ≡ p ++ take j x =

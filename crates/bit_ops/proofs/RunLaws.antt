@@ -51,7 +51,7 @@ inside-room s at n e = go (eqb n 0) refl e
 -- ---- runs
 
 -- n bits from `at` on, and m behind them, are n + m
-paste-add : (d : List ℕ) (at : ℕ) (s : List ℕ) (n m : ℕ) → (at + n) + m ≤ length d → n ≤ length s
+pub paste-add : (d : List ℕ) (at : ℕ) (s : List ℕ) (n m : ℕ) → (at + n) + m ≤ length d → n ≤ length s
     → paste (paste d at s n) (at + n) (drop n s) m ≡ paste d at s (n + m)
 paste-add d at s n m hd hs =
     let t : take (at + n) (paste d at s n) ≡ take at d ++ take n s = take-paste d at s n (omega arith) (omega arith) in

@@ -23,7 +23,7 @@ pub(crate) fn place_of(at: usize) -> Place
 
 // The place n bits on.
 pub(crate) fn skip(p: Place, n: usize) -> Place
-    requires { ⌜ (p .byte < 2 ^ 63) × (p .bit < 8) × (n ≤ 8) ⌝ }
+    requires { ⌜ (p .byte < 2 ^ 63) × (p .bit < 8) × (n ≤ 64) ⌝ }
     ensures { λ r. ⌜ (8 * r .byte + r .bit ≡ 8 * p .byte + p .bit + n) × (r .bit < 8) ⌝ }
 {
     Place {

@@ -1,5 +1,5 @@
 -- The parts of a page of a table's first n rows under a choice of m and q. Document 01, "The page", "The normal page".
--- In order: leftOut rowKeys rowLengths storedSum · withKey withNumber cleared · headerBytes withHeader withOffsets withPointers.
+-- In order: leftOut rowKeys rowLengths storedSum · withKey withFirst withNumber cleared · headerBytes withHeader withOffsets withPointers.
 -- Assumes nothing.
 use Prim.Native.Nat.{ℕ, _*_}
 use mathlib.Core.Bool.{cond, _&&_}
@@ -36,6 +36,11 @@ storedSum t n m q = cond (leb n 681) (sum (rowLengths n t m q)) 0
 unfoldable pub withKey : List ℕ → ℕ → List ℕ → ℕ → ℕ → List ℕ
 unfolding afterwards bitCopy pack
 withKey d at k from len = afterwards (bitCopy d at (pack 32 k) from len) (λ x. x) d
+
+-- d with the first n bits of the word x in its bits from `at` on; d as it is where it has not so many.
+unfoldable pub withFirst : List ℕ → ℕ → ℕ → ℕ → List ℕ
+unfolding inside bits bitsOf pack
+withFirst d at n x = cond (inside (length d) at n) (pack (length d) (paste (bitsOf d) at (bits 64 x) n)) d
 
 -- d with the n low bits of x in its bits from `at` on; d as it is where they are more than 64 or d has not so many.
 unfoldable pub withNumber : List ℕ → ℕ → ℕ → ℕ → List ℕ

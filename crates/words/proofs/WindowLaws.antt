@@ -1,13 +1,13 @@
 -- Laws of windows: some bits of a list with zeros behind them, and the numbers that bytes of a slice spell.
 -- In order: `take` and `drop` of any length; `fill` of parts; the bytes of a slice, 0 past its end; the numbers that
 -- they spell, most significant byte first (`Spells`) and least significant first (`unle`); the first bits of a word,
--- and others behind them.
+-- and others behind them; a word's bits from some bit on.
 -- Not here: words that are stored (`WordsLaws`); those of format's `BitsLaws`.
 -- Assumes nothing.
 use mathlib.Core.List.{List, [], _∷_, _++_, append-nil}
 use mathlib.Core.Path.{_≡_, refl, sym, ap, ap₂, subst, _∙_}
 use Prim.Native.Nat.{ℕ, zero, suc, _+_, _-_, _*_, _/_, _%_, _^_, _≤_, _<_}
-use native.Mathlib.Nat.{add-zero}
+use native.Mathlib.Nat.{add-zero, mod-lt, mul-assoc}
 use native.Mathlib.Numerals.{add-one}
 use native.Mathlib.Omega.{arith}
 use native.Mathlib.Decide.{decLe}
@@ -20,6 +20,7 @@ use lib.ListN.{
   drop,
   replicate,
   length-append,
+  length-drop,
   drop-of-length-le,
   List·getD-eq-default,
 }
@@ -38,7 +39,7 @@ use Rattle.facts.proofs.BitsLaws.{
   take-fill,
   length-fill,
 }
-use Rattle.words.proofs.NumberLaws.{take-bits, bits-zero, shl-64}
+use Rattle.words.proofs.NumberLaws.{take-bits, bits-split, bits-zero, shl-64}
 
 -- ---- take and drop
 
@@ -145,6 +146,24 @@ nine-bytes s b i g x y r lg eb ex ey er =
     ∙ ap (λ (k : ℕ). take 64 (drop g (fill k z))) eq ∙ ap (take 64) (drop-fill g (72 - g) z)
     ∙ take-fill 64 (72 - g) (drop g z) le
     ∙ ap (fill 64) (drop-drop g (8 * i) (bitsOf s) ∙ ap (λ (k : ℕ). drop k (bitsOf s)) eb)
+
+-- the 64 bits from bit g of byte i on, out of the last eight bytes
+pub last-eight : (s : List ℕ) (i j g x r : ℕ) → j ≡ length s - 8 → 8 ≤ length s → j ≤ i → i < length s → g < 8
+    → bits 64 x ≡ fill 64 (drop (8 * j) (bitsOf s))
+    → bits 64 r ≡ fill 64 (drop (8 * (i - j) + g) (bits 64 x))
+    → bits 64 r ≡ fill 64 (drop (8 * i + g) (bitsOf s))
+last-eight s i j g x r ej h l hi hg ex er =
+    let z : List ℕ = drop (8 * j) (bitsOf s) in
+    let lz : length z ≡ 64 = omega (arith, length-drop (8 * j) (bitsOf s), length-bitsOf s) in
+    let e : 8 * j + (8 * (i - j) + g) ≡ 8 * i + g = omega arith in
+    er ∙ ap (λ (l : List ℕ). fill 64 (drop (8 * (i - j) + g) l)) (ex ∙ fill-exact z 64 lz)
+    ∙ ap (fill 64) (drop-drop (8 * (i - j) + g) (8 * j) (bitsOf s) ∙ ap (λ (k : ℕ). drop k (bitsOf s)) e)
+
+-- past the end
+pub bits-past : (s : List ℕ) (b i g : ℕ) → length s ≤ i → b ≡ 8 * i + g → bits 64 0 ≡ fill 64 (drop b (bitsOf s))
+bits-past s b i g h e =
+    bits-zero 64
+    ∙ sym (ap (fill 64) (drop-of-length-le (bitsOf s) {i = b} (omega (arith, length-bitsOf s))) ∙ fill-nil 64)
 
 pub byte-past : (s : List ℕ) (i : ℕ) → length s ≤ i → 0 ≡ getD s i 0
 byte-past s i h = sym (List·getD-eq-default s 0 h)
@@ -275,6 +294,111 @@ module _ (x k y : ℕ) (h : k < 64) (lx : x < 2 ^ 64) (ly : y < 2 ^ 64) where
       ∙ sym (ap (λ (u : List ℕ). take 64 (u ++ bits 64 y)) (first-are x k l)
       ∙ ap (λ (n : ℕ). take n (A ++ bits 64 y)) f ∙ take-append-add A (bits 64 y) (64 - k)
       ∙ ap (λ (u : List ℕ). A ++ u) (ap (λ (n : ℕ). take (64 - k) (bits n y)) e′ ∙ take-bits (64 - k) k y))
+
+-- y's own bits from k on
+module _ (k y : ℕ) (h : k < 64) where
+  pub rest-is : (y * 2 ^ k % 2 ^ 64) / 2 ^ k ≡ y % 2 ^ (64 - k)
+  rest-is =
+      let l : k ≤ 64 = omega arith in
+      ap (λ (n : ℕ). n / 2 ^ k) (shl-64 y k l) ∙ shl-shr (y % 2 ^ (64 - k)) k
+
+  pub rest-are : drop k (bits 64 y) ≡ bits (64 - k) (y % 2 ^ (64 - k))
+  rest-are =
+      let e : 64 ≡ k + (64 - k) = omega arith in
+      ap (λ (n : ℕ). drop k (bits n y)) e ∙ ap (drop k) (bits-split k (64 - k) y)
+      ∙ drop-at (bits k (y / 2 ^ (64 - k))) (bits (64 - k) (y % 2 ^ (64 - k))) k (length-bits k (y / 2 ^ (64 - k)))
+
+  -- a word moved over its first k bits
+  pub moved-bits : bits 64 (y * 2 ^ k % 2 ^ 64) ≡ fill 64 (drop k (bits 64 y))
+  moved-bits =
+      let l : k ≤ 64 = omega arith in
+      let e : 64 ≡ (64 - k) + k = omega arith in
+      let A : List ℕ = bits (64 - k) (y % 2 ^ (64 - k)) in
+      let lk : length A ≡ 64 - k = length-bits (64 - k) (y % 2 ^ (64 - k)) in
+      let le : length A ≤ 64 = omega arith in
+      let f : k ≡ 64 - length A = omega arith in
+      ap₂ bits e (shl-64 y k l ∙ sym (add-zero ((y % 2 ^ (64 - k)) * 2 ^ k)))
+      ∙ bits-cat (64 - k) k (y % 2 ^ (64 - k)) 0 (pow-pos k) ∙ ap (λ (z : List ℕ). A ++ z) (bits-zero k)
+      ∙ sym (ap (fill 64) rest-are ∙ fill-short 64 A le ∙ ap (λ (n : ℕ). A ++ replicate n 0) (sym f))
+
+-- behind the first k of x
+module _ (x k y : ℕ) (h : k < 64) (lx : x < 2 ^ 64) where
+  spliced-is : (x - (x * 2 ^ k % 2 ^ 64) / 2 ^ k) + (y * 2 ^ k % 2 ^ 64) / 2 ^ k
+      ≡ x / 2 ^ (64 - k) * 2 ^ (64 - k) + y % 2 ^ (64 - k)
+  spliced-is =
+      let l : k ≤ 64 = omega arith in
+      ap₂ _+_ (cut x k l lx) (rest-is k y h)
+
+  pub spliced-lt : (x - (x * 2 ^ k % 2 ^ 64) / 2 ^ k) + (y * 2 ^ k % 2 ^ 64) / 2 ^ k < 2 ^ 64
+  spliced-lt =
+      let e : 64 ≡ k + (64 - k) = omega arith in
+      let hx : x / 2 ^ (64 - k) < 2 ^ k = shr-lt k (64 - k) (subst (λ (n : ℕ). x < 2 ^ n) e lx) in
+      subst (λ (n : ℕ). n < 2 ^ 64) (sym spliced-is)
+      (subst (λ (n : ℕ). x / 2 ^ (64 - k) * 2 ^ (64 - k) + y % 2 ^ (64 - k) < n)
+      (sym (pow-add 2 k (64 - k)) ∙ ap (λ (n : ℕ). 2 ^ n) (sym e)) (digits-lt hx (mod-lt y (pow-pos (64 - k)))))
+
+  pub spliced-bits : bits 64 ((x - (x * 2 ^ k % 2 ^ 64) / 2 ^ k) + (y * 2 ^ k % 2 ^ 64) / 2 ^ k)
+      ≡ take k (bits 64 x) ++ drop k (bits 64 y)
+  spliced-bits =
+      let l : k ≤ 64 = omega arith in
+      let e : 64 ≡ k + (64 - k) = omega arith in
+      ap₂ bits e spliced-is
+      ∙ bits-cat k (64 - k) (x / 2 ^ (64 - k)) (y % 2 ^ (64 - k)) (mod-lt y (pow-pos (64 - k)))
+      ∙ sym (ap₂ _++_ (first-are x k l) (rest-are k y h))
+
+-- the last k bits of x, and y behind them
+last-are : (x k : ℕ) → k ≤ 64 → drop (64 - k) (bits 64 x) ≡ bits k (x % 2 ^ k)
+last-are x k h =
+    let e : 64 ≡ (64 - k) + k = omega arith in
+    ap (λ (n : ℕ). drop (64 - k) (bits n x)) e ∙ ap (drop (64 - k)) (bits-split (64 - k) k x)
+    ∙ drop-at (bits (64 - k) (x / 2 ^ k)) (bits k (x % 2 ^ k)) (64 - k) (length-bits (64 - k) (x / 2 ^ k))
+
+twice-mod : (a : ℕ) → ((a % 2 ^ 64) * 2) % 2 ^ 64 ≡ (a * 2) % 2 ^ 64
+twice-mod a = omega arith
+
+module _ (x k y : ℕ) (h : k < 64) (ly : y < 2 ^ 64) where
+  moved-twice : ((x * 2 ^ (63 - k) % 2 ^ 64) * 2) % 2 ^ 64 ≡ (x % 2 ^ k) * 2 ^ (64 - k)
+  moved-twice =
+      let e : suc (63 - k) ≡ 64 - k = omega arith in
+      let d : (x * 2 ^ (63 - k)) * 2 ≡ x * 2 ^ suc (63 - k) = mul-assoc x (2 ^ (63 - k)) 2 ∙ ap (λ (n : ℕ). x * n) (omega arith) in
+      let f : 64 - (64 - k) ≡ k = omega arith in
+      twice-mod (x * 2 ^ (63 - k)) ∙ ap (λ (n : ℕ). n % 2 ^ 64) (d ∙ ap (λ (n : ℕ). x * 2 ^ n) e)
+      ∙ shl-64 x (64 - k) (omega arith) ∙ ap (λ (n : ℕ). (x % 2 ^ n) * 2 ^ (64 - k)) f
+
+  across-is : ((x * 2 ^ (63 - k) % 2 ^ 64) * 2) % 2 ^ 64 + y / 2 ^ k ≡ (x % 2 ^ k) * 2 ^ (64 - k) + y / 2 ^ k
+  across-is = ap (λ (n : ℕ). n + y / 2 ^ k) moved-twice
+
+  behind-lt : y / 2 ^ k < 2 ^ (64 - k)
+  behind-lt =
+      let e : 64 ≡ (64 - k) + k = omega arith in
+      shr-lt (64 - k) k (subst (λ (n : ℕ). y < 2 ^ n) e ly)
+
+  pub across-lt : ((x * 2 ^ (63 - k) % 2 ^ 64) * 2) % 2 ^ 64 + y / 2 ^ k < 2 ^ 64
+  across-lt =
+      let e : 64 ≡ k + (64 - k) = omega arith in
+      subst (λ (n : ℕ). n < 2 ^ 64) (sym across-is)
+      (subst (λ (n : ℕ). (x % 2 ^ k) * 2 ^ (64 - k) + y / 2 ^ k < n)
+      (sym (pow-add 2 k (64 - k)) ∙ ap (λ (n : ℕ). 2 ^ n) (sym e)) (digits-lt (mod-lt x (pow-pos k)) behind-lt))
+
+  pub across-bits : bits 64 (((x * 2 ^ (63 - k) % 2 ^ 64) * 2) % 2 ^ 64 + y / 2 ^ k)
+      ≡ drop (64 - k) (bits 64 x) ++ take (64 - k) (bits 64 y)
+  across-bits =
+      let e : 64 ≡ k + (64 - k) = omega arith in
+      let e′ : 64 ≡ (64 - k) + k = omega arith in
+      ap₂ bits e across-is ∙ bits-cat k (64 - k) (x % 2 ^ k) (y / 2 ^ k) behind-lt
+      ∙ sym (ap₂ _++_ (last-are x k (omega arith))
+      (ap (λ (n : ℕ). take (64 - k) (bits n y)) e′ ∙ take-bits (64 - k) k y))
+
+pub across-all : (x k y : ℕ) → 64 ≤ k → bits 64 x ≡ drop (64 - k) (bits 64 x) ++ take (64 - k) (bits 64 y)
+across-all x k y h =
+    let e : 64 - k ≡ 0 = omega arith in
+    rw e (sym (append-nil (bits 64 x)))
+
+pub spliced-all : (x k y : ℕ) → 64 ≤ k → bits 64 x ≡ take k (bits 64 x) ++ drop k (bits 64 y)
+spliced-all x k y h =
+    sym (ap₂ _++_ (take-all k (bits 64 x) (omega (arith, length-bits 64 x)))
+    (drop-of-length-le (bits 64 y) {i = k} (omega (arith, length-bits 64 y)))
+    ∙ append-nil (bits 64 x))
 
 pub joined-all : (x k y : ℕ) → 64 ≤ k → bits 64 x ≡ take 64 (take k (bits 64 x) ++ bits 64 y)
 joined-all x k y h =

@@ -1,19 +1,19 @@
 -- Laws of words in bytes (`specs/Words.antt`).
--- In order: `wordBytes`; `withWord`.
+-- In order: `wordBytes`; `withWord`; `wordBits`.
 -- Not here: the number that bytes spell (`WindowLaws`).
 -- Assumes nothing.
 use mathlib.Core.Bool.{Bool, true, false, cond}
 use mathlib.Core.List.{List, _++_}
 use mathlib.Core.Path.{_≡_, refl, sym, ap, ap₂, _∙_}
-use Prim.Native.Nat.{ℕ, _+_, _≤_, _<_}
+use Prim.Native.Nat.{ℕ, _+_, _*_, _≤_, _<_}
 use native.Mathlib.Omega.{arith}
 use borrow.Author.Tests.{le-leb, lt-leb, leb-true, leb-false}
 use lib.Dec.{leb}
-use lib.ListN.{length, take, drop, length-append}
+use lib.ListN.{length, take, drop, replicate, length-append}
 use lib.Seq.{take-all, take-at, drop-append-add, length-paste, paste}
-use Rattle.format.specs.Bits.{bits, bitsOf, pack, AllBelow}
+use Rattle.format.specs.Bits.{bits, bitsOf, fill, pack, AllBelow}
 use Rattle.facts.proofs.BitsLaws.{length-bits, length-pack, bitsOf-pack, allBelow-bits, allBelow-pack, fill-exact}
-use Rattle.words.specs.Words.{wordBytes, withWord}
+use Rattle.words.specs.Words.{wordBytes, withWord, wordBits}
 
 -- ---- the bytes of a word
 
@@ -63,3 +63,16 @@ withWord-behind p q i x e h =
     withWord-in (p ++ q) i x l
     ∙ ap₂ (λ (u v : List ℕ). (u ++ wordBytes x) ++ v) (take-at p q i e)
     (ap (λ (k : ℕ). drop k (p ++ q)) f ∙ drop-append-add p q 8)
+
+-- ---- a word read
+
+module _ (s : List ℕ) (i : ℕ) where
+  pub wordBits-in : i + 8 ≤ length s → wordBits s i ≡ fill 64 (drop (8 * i) (bitsOf s))
+  unfolding wordBits
+  wordBits-in h =
+      ap (λ (t : Bool). cond t (fill 64 (drop (8 * i) (bitsOf s))) (replicate 64 0)) (le-leb (i + 8) (length s) h)
+
+  pub wordBits-out : length s < i + 8 → wordBits s i ≡ replicate 64 0
+  unfolding wordBits
+  wordBits-out h =
+      ap (λ (t : Bool). cond t (fill 64 (drop (8 * i) (bitsOf s))) (replicate 64 0)) (lt-leb (i + 8) (length s) h)

@@ -1,7 +1,7 @@
 -- Words of 64 bits, in bytes and out of them.
--- In order: wordBytes withWord · windowBits.
+-- In order: wordBytes withWord · windowBits wordBits.
 -- Assumes nothing.
-use Prim.Native.Nat.{ℕ, _+_, _/_}
+use Prim.Native.Nat.{ℕ, _+_, _*_, _/_}
 use mathlib.Core.Bool.{cond}
 use mathlib.Core.List.{List}
 use lib.Dec.{leb, ltb}
@@ -23,3 +23,8 @@ withWord s i x = cond (leb (i + 8) (length s)) (paste s i (wordBytes x) 8) s
 unfoldable pub windowBits : List ℕ → ℕ → List ℕ
 unfolding bitsOf fill
 windowBits s start = cond (ltb (start / 8 + 8) (length s)) (fill 64 (drop start (bitsOf s))) (replicate 64 0)
+
+-- The 64 bits of the eight bytes of s from i on, where they are in s; else zeros.
+unfoldable pub wordBits : List ℕ → ℕ → List ℕ
+unfolding bitsOf fill
+wordBits s i = cond (leb (i + 8) (length s)) (fill 64 (drop (8 * i) (bitsOf s))) (replicate 64 0)

@@ -5,10 +5,10 @@
 // specs/Words.antt.
 ghost use mathlib.Core.Path.{_≡_};
 ghost use mathlib.Core.List.{_++_};
-ghost use Prim.Native.Nat.{_+_, _-_, _*_, _^_, _<_, _≤_};
+ghost use Prim.Native.Nat.{_+_, _-_, _*_, _%_, _^_, _<_, _≤_};
 ghost use lib.ListN.{length, take, drop, getD};
 ghost use Rattle.format.specs.Bits.{bits, bitsOf, fill, pack, unle};
-ghost use Rattle.words.specs.Words.{windowBits, withWord};
+ghost use Rattle.words.specs.Words.{windowBits, withWord, wordBits};
 
 // a - b, or 0 where that is below zero.
 pub fn over(a: usize, b: usize) -> usize
@@ -117,16 +117,56 @@ fn nine_near_end(s: &[u8], i: usize, h: usize) -> u64
     shifted(near_end(s, i), byte_at(s, i + 8), h)
 }
 
+// The 64 bits from bit h of byte i on, one of the last eight bytes: of those, what is left of h.
+fn last(s: &[u8], i: usize, h: usize) -> u64
+    requires { ⌜ (8 ≤ length (now s)) × (length (now s) ≤ i + 8) × (i < length (now s)) × (h < 8) ⌝ }
+    ensures answer { λ r. ⌜ bits 64 r ≡ fill 64 (drop (8 * i + h) (bitsOf (now (s .entry)))) ⌝ }
+{
+    let j = s.len() - 8;
+    eight(s, j) << (8 * (i - j) + h)
+}
+
+// The 64 bits from bit h of byte i on, where the ninth byte from there is not in the slice.
+fn at_end(s: &[u8], i: usize, h: usize) -> u64
+    requires { ⌜ (length (now s) ≤ i + 8) × (h < 8) ⌝ }
+    ensures answer { λ r. ⌜ bits 64 r ≡ fill 64 (drop (8 * i + h) (bitsOf (now (s .entry)))) ⌝ }
+{
+    if s.len() <= i {
+        return 0;
+    }
+    if s.len() < 8 {
+        return nine_near_end(s, i, h);
+    }
+    last(s, i, h)
+}
+
+// The 64 bits from bit h % 8 of byte i on.
+pub fn at_place(s: &[u8], i: usize, h: usize) -> u64
+    ensures answer { λ r. ⌜ bits 64 r ≡ fill 64 (drop (8 * i + h % 8) (bitsOf (now (s .entry)))) ⌝ }
+{
+    if i < over(s.len(), 8) {
+        return nine(s, i, h % 8);
+    }
+    at_end(s, i, h % 8)
+}
+
 // The 64 bits from bit `start + skip` on; the sum itself need not fit.
 pub fn at_bit(s: &[u8], start: usize, skip: usize) -> u64
     ensures answer { λ r. ⌜ bits 64 r ≡ fill 64 (drop (start + skip) (bitsOf (now (s .entry)))) ⌝ }
 {
     let h = start % 8 + skip % 8;
-    let i = start / 8 + skip / 8 + h / 8;
-    if i < over(s.len(), 8) {
-        return nine(s, i, h % 8);
+    at_place(s, start / 8 + skip / 8 + h / 8, h)
+}
+
+// The 64 bits of the eight bytes from i on, where they are in the slice; else zeros.
+pub fn word_at(s: &[u8], i: usize) -> u64
+    ensures answer { λ r. ⌜ bits 64 r ≡ wordBits (now (s .entry)) i ⌝ }
+{
+    let n = over(s.len(), 7);
+    if i < n {
+        return eight(s, i);
     }
-    nine_near_end(s, i, h % 8)
+    0
 }
 
 // The 64 bits from bit `start` on, where the nine bytes from there on are in the slice; else zeros.
@@ -137,6 +177,16 @@ pub fn window(s: &[u8], start: usize) -> u64
     let i = start / 8;
     if i < over(s.len(), 8) {
         return nine(s, i, start % 8);
+    }
+    0
+}
+
+// The same from bit h % 8 of byte i on.
+pub fn window_at(s: &[u8], i: usize, h: usize) -> u64
+    ensures answer { λ r. ⌜ bits 64 r ≡ windowBits (now (s .entry)) (8 * i + h % 8) ⌝ }
+{
+    if i < over(s.len(), 8) {
+        return nine(s, i, h % 8);
     }
     0
 }
@@ -159,6 +209,26 @@ pub fn joined(x: u64, j: usize, y: u64) -> u64
         return x;
     }
     x - (x << j >> j) + (y >> j)
+}
+
+// The first n bits of x, and those of y from bit n on.
+pub fn spliced(x: u64, n: usize, y: u64) -> u64
+    ensures answer { λ r. ⌜ bits 64 r ≡ take n (bits 64 x) ++ drop n (bits 64 y) ⌝ }
+{
+    if 64 <= n {
+        return x;
+    }
+    x - (x << n >> n) + (y << n >> n)
+}
+
+// The last h bits of x, and the first of y behind them; all of x where h is 64 or more.
+pub fn across(x: u64, y: u64, h: usize) -> u64
+    ensures answer { λ r. ⌜ bits 64 r ≡ drop (64 - h) (bits 64 x) ++ take (64 - h) (bits 64 y) ⌝ }
+{
+    if 64 <= h {
+        return x;
+    }
+    (x << (63 - h) << 1) + (y >> h)
 }
 
 // The 32 last bits of x in the four bytes from i on, which are there, most significant first.

@@ -1,54 +1,39 @@
--- `words::at_bit` meets its contract: bit h % 8 of byte i is bit `start + skip` of the slice.
+-- `words::at_bit` meets its contract: bit h % 8 of the byte is bit `start + skip` of the slice.
 -- Assumes nothing.
+use borrow.Author.Needs.{needs}
+use Rattle.words.proofs.at_bit.Statement.{statement}
+use Rattle.words.proofs.at_bit.Tie as tie
+use Rattle.words.proofs.at_bit.Reads as reads
+use Rattle.words.proofs.at_bit.Lts as lts
+use Rattle.words.proofs.at_place.Reads as at-place-reads
 use mathlib.Core.List.{List}
 use mathlib.Core.Path.{_≡_, ap, _∙_}
 use Prim.Native.Nat.{ℕ, _+_, _*_, _/_, _%_}
 use native.Mathlib.Omega.{arith}
 use lib.ListN.{drop}
 use Rattle.format.specs.Bits.{bits, bitsOf, fill}
-use borrow.Author.Needs.{needs}
-use Rattle.words.proofs.at_bit.Statement.{statement}
-use Rattle.words.proofs.at_bit.Tie as tie
 
-at : (s : List ℕ) (start skip h i r : ℕ) → h ≡ start % 8 + skip % 8 → i ≡ start / 8 + skip / 8 + h / 8
-    → bits 64 r ≡ fill 64 (drop (8 * i + h % 8) (bitsOf s)) → bits 64 r ≡ fill 64 (drop (start + skip) (bitsOf s))
-at s start skip h i r eh ei er =
-    let e : 8 * i + h % 8 ≡ start + skip = omega arith in
+at : (s : List ℕ) (start skip h r : ℕ) → h ≡ start % 8 + skip % 8
+    → bits 64 r ≡ fill 64 (drop (8 * (start / 8 + skip / 8 + h / 8) + h % 8) (bitsOf s))
+    → bits 64 r ≡ fill 64 (drop (start + skip) (bitsOf s))
+at s start skip h r eh er =
+    let e : 8 * (start / 8 + skip / 8 + h / 8) + h % 8 ≡ start + skip = omega arith in
     er ∙ ap (λ (k : ℕ). fill 64 (drop k (bitsOf s))) e
 
 add-h : tie.Need-add-h
-add-h c = search needs
+add-h c = search (needs, at)
 
-add-i : tie.Need-add-i
-add-i c = search needs
+add-at-place : tie.Need-add-at-place
+add-at-place c = search (needs, at)
 
-add-i-2 : tie.Need-add-i-2
-add-i-2 c = search needs
+add-at-place-2 : tie.Need-add-at-place-2
+add-at-place-2 c = search (needs, at)
 
-over-requires : tie.Need-over-requires
-over-requires c κs = search needs
-
-nine-requires : tie.Need-nine-requires
-nine-requires c κs = search needs
+at-place-requires : tie.Need-at-place-requires
+at-place-requires c κs = search (needs, at)
 
 returns : tie.Need-returns
 returns c = search (needs, at)
 
-nine-near-end-requires : tie.Need-nine-near-end-requires
-nine-near-end-requires c κs = search needs
-
-returns-2 : tie.Need-returns-2
-returns-2 c = search (needs, at)
-
 pub at-bit-spec : {M : Type 1} → statement M
-at-bit-spec =
-    tie.close
-    (tie.spec
-    add-h
-    add-i
-    add-i-2
-    over-requires
-    nine-requires
-    returns
-    nine-near-end-requires
-    returns-2)
+at-bit-spec = tie.close (tie.spec add-h add-at-place add-at-place-2 at-place-requires returns)

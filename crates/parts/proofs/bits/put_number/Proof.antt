@@ -1,24 +1,33 @@
--- `parts::bits::put_number` meets its contract: because the number's low bits end at the bit 64 of a key that begins
--- with it.
+-- `parts::bits::put_number` meets its contract: because the number's low bits, moved to the front of a word, are its first.
 -- Assumes nothing.
 use borrow.Author.Needs.{needs}
 use Rattle.parts.proofs.bits.put_number.Statement.{statement}
 use Rattle.parts.proofs.bits.put_number.Tie as tie
-use Rattle.parts.proofs.BitLaws.{number-many, number-put}
+use Rattle.parts.proofs.bits.put_number.Reads as reads
+use Rattle.parts.proofs.bits.put_number.Lts as lts
+use Rattle.parts.proofs.bits.put_first.Reads as put-first-reads
+use Rattle.parts.proofs.BitLaws.{number-many, number-none, number-put}
 
-ruleset laws = (number-many, number-put)
+ruleset laws = (number-many, number-none, number-put)
 
 returns : tie.Need-returns
 returns c = search (needs, laws)
 
-put-key-requires : tie.Need-put-key-requires
-put-key-requires c κs = search (needs, laws)
+returns-2 : tie.Need-returns-2
+returns-2 c = search (needs, laws)
+
+shl-put-first : tie.Need-shl-put-first
+shl-put-first c = search (needs, laws)
+
+put-first-requires : tie.Need-put-first-requires
+put-first-requires c κs = search (needs, laws)
 
 same-length : tie.Need-same-length
 same-length c = search (needs, laws)
 
-returns-2 : tie.Need-returns-2
-returns-2 c = search (needs, laws)
+returns-3 : tie.Need-returns-3
+returns-3 c = search (needs, laws)
 
 pub put-number-spec : {M : Type 1} → statement M
-put-number-spec = tie.close (tie.spec returns put-key-requires same-length returns-2)
+put-number-spec =
+    tie.close (tie.spec returns returns-2 shl-put-first put-first-requires same-length returns-3)

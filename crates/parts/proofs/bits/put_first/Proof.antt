@@ -1,0 +1,48 @@
+-- `parts::bits::put_first` meets its contract: because no bits are none, bits that are not there are not written, and others are.
+-- Assumes nothing.
+use borrow.Author.Needs.{needs}
+use Rattle.parts.proofs.bits.put_first.Statement.{statement}
+use Rattle.parts.proofs.bits.put_first.Tie as tie
+use Rattle.parts.proofs.bits.put_first.Reads as reads
+use Rattle.parts.proofs.bits.put_first.Lts as lts
+use Rattle.parts.proofs.bits.put_word.Reads as put-word-reads
+use Rattle.parts.proofs.BitLaws.{first-none, first-past, first-put}
+
+ruleset laws = (first-none, first-past, first-put)
+
+returns : tie.Need-returns
+returns c = search (needs, laws)
+
+add-if2 : tie.Need-add-if2
+add-if2 c = search (needs, laws)
+
+add-if2-2 : tie.Need-add-if2-2
+add-if2-2 c = search (needs, laws)
+
+add-if2-3 : tie.Need-add-if2-3
+add-if2-3 c = search (needs, laws)
+
+returns-2 : tie.Need-returns-2
+returns-2 c = search (needs, laws)
+
+put-word-requires : tie.Need-put-word-requires
+put-word-requires c κs = search (needs, laws)
+
+same-length : tie.Need-same-length
+same-length c = search (needs, laws)
+
+returns-3 : tie.Need-returns-3
+returns-3 c = search (needs, laws)
+
+pub put-first-spec : {M : Type 1} → statement M
+put-first-spec =
+    tie.close
+    (tie.spec
+    returns
+    add-if2
+    add-if2-2
+    add-if2-3
+    returns-2
+    put-word-requires
+    same-length
+    returns-3)
