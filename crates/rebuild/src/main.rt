@@ -16,7 +16,6 @@ use build::Built;
 use build::Numbers;
 use format::refusal::Refusal;
 use libc::STDERR_FILENO;
-use libc::STDOUT_FILENO;
 use node::reader;
 use node::reader::Checked;
 ghost use Prim.Native.Nat.{_≤_};
@@ -53,7 +52,7 @@ fn finish(number: u64, v: Numbers, page: &[u8], undo: &[u8]) {
     }
     say::page(number, v.n, v.m, v.q, v.bits);
     say::field(b", undo ", v.undo as u64);
-    io::write_all(STDOUT_FILENO, b"\n");
+    say::end();
 }
 
 // Builds into two buffers, and then into the files.
@@ -108,7 +107,7 @@ fn check_page(page: &[u8]) {
         Checked::Refused(why) => say::refused(2, why),
         Checked::Page(h) => {
             say::page(h.number, h.n, h.m, h.q, h.bits);
-            io::write_all(STDOUT_FILENO, b"\n");
+            say::end();
         }
     }
 }

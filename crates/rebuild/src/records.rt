@@ -38,11 +38,13 @@ fn fields(s: &[u8], p: usize) -> usize {
     22
 }
 
-// Edit i, whose kind stands at bit p. Where the next one's stands.
+// Edit i, whose kind stands at bit p. Where the next one's stands; 0 where it was not printed.
 fn line(s: &[u8], i: usize, p: usize) -> usize {
     io::print_decimal(STDOUT_FILENO, i as u64);
     let bits = fields(s, p);
-    io::write_all(STDOUT_FILENO, b"\n");
+    if !say::end() {
+        return 0;
+    }
     std::num::wrapping_add_usize(p, bits)
 }
 
@@ -51,6 +53,9 @@ fn lines(s: &[u8], n: usize) {
     let mut p: usize = 10;
     for i in 0..n {
         p = line(s, i, p);
+        if p == 0 {
+            return;
+        }
     }
 }
 
@@ -76,6 +81,7 @@ pub fn record(s: &[u8]) {
     }
     let n = count(s);
     say::field(b"edits ", n as u64);
-    io::write_all(STDOUT_FILENO, b"\n");
-    lines(s, n);
+    if say::end() {
+        lines(s, n);
+    }
 }

@@ -20,6 +20,15 @@ pub fn page(number: u64, n: usize, m: usize, q: usize, bits: usize) {
     field(b", bits ", bits as u64);
 }
 
+// A line's end. Where standard output takes no more it is said, and false is the answer.
+pub fn end() -> bool {
+    if !io::write_all(STDOUT_FILENO, b"\n") {
+        os::fail(b"standard output");
+        return false;
+    }
+    true
+}
+
 // A key's 64 hexadecimal digits.
 pub fn key(k: Key) {
     io::print_hex(STDOUT_FILENO, k.a, 16);

@@ -14,10 +14,14 @@ fn stored(page: &[u8], i: usize) -> usize {
     words::over(reader::cell(page, i), reader::cell(page, i - 1))
 }
 
-// Entry i: its index, compressed or plain, its stored bits, its key and its pointer.
-fn line(page: &[u8], h: Header, i: usize) {
+// Entry i: its index, compressed or plain, its stored bits, its key and its pointer. Whether it was
+// printed.
+fn line(page: &[u8], h: Header, i: usize) -> bool {
     match view::read_entry(page, i) {
-        Seen::Refused(why) => say::refused(2, why),
+        Seen::Refused(why) => {
+            say::refused(2, why);
+            false
+        }
         Seen::Entry(key, pointer) => {
             io::print_decimal(STDOUT_FILENO, i as u64);
             if i < h.m {
@@ -28,7 +32,7 @@ fn line(page: &[u8], h: Header, i: usize) {
             io::write_all(STDOUT_FILENO, b" ");
             say::key(key);
             say::field(b" ", pointer);
-            io::write_all(STDOUT_FILENO, b"\n");
+            say::end()
         }
     }
 }
@@ -36,7 +40,9 @@ fn line(page: &[u8], h: Header, i: usize) {
 fn lines(page: &[u8], h: Header) {
     let n = h.n;
     for i in 0..n {
-        line(page, h, i);
+        if !line(page, h, i) {
+            return;
+        }
     }
 }
 
@@ -46,8 +52,9 @@ pub fn page(page: &[u8]) {
         Checked::Refused(why) => say::refused(2, why),
         Checked::Page(h) => {
             say::page(h.number, h.n, h.m, h.q, h.bits);
-            io::write_all(STDOUT_FILENO, b"\n");
-            lines(page, h);
+            if say::end() {
+                lines(page, h);
+            }
         }
     }
 }
