@@ -331,7 +331,7 @@ module _ (d : List ℕ) (at : ℕ) (k : Key) (d′ : List ℕ) where
       go false q = rw q
 
   -- all of them
-  pub key-whole : (from n r : ℕ) → from ≡ 0 → n ≡ 256 → r ≡ length d - 39 → at / 8 < r
+  pub key-whole : (from n r : ℕ) → from ≡ 0 → n ≡ 256 → r ≡ length d / 8 - 5 → at / 64 < r
       → bitsOf d′ ≡ paste (bitsOf d) (8 * (at / 8) + at % 8) (keyBits k) 256
       → length d′ ≡ length d → ((i : ℕ) → Fits w8 (getD d′ i 0)) → d′ ≡ withKey d at (keyBits k) from n
   key-whole from n r ef en er h e l b =

@@ -101,7 +101,7 @@ pub fn put_key(d: &mut [u8], at: usize, k: Key, from: usize, len: usize)
         }
         if len == 256 {
             if from == 0 {
-                if at / 8 < words::over(d.len(), 39) {
+                if at / 64 < words::over(d.len() / 8, 5) {
                     put_whole(d, at / 8, at % 8, k);
                     return;
                 }
