@@ -1,5 +1,2 @@
--- Laws that the proofs of bit_ops share. Read in this order.
-pub mod FieldLaws
-pub mod RunLaws
-pub mod WordLaws
+-- Laws that the proofs of bit_ops share.
 pub mod SharedLaws

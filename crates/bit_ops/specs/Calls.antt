@@ -1,13 +1,13 @@
 -- What the calls that write promise: the number of the answer, and every byte of lent memory afterwards. Document 01,
 -- "The page", "Refusal numbers".
--- In order: Separated · Copied · Rebuilt.
+-- In order: Separated · Rebuilt.
 -- Assumes nothing.
 use mathlib.Core.List.{List}
 use mathlib.Core.Path.{_≡_}
 use Prim.Native.Nat.{ℕ}
 use Rattle.format.specs.Bits.{bitsOf, pack}
 use Rattle.format.specs.Answer.{refusalOf, afterwards}
-use Rattle.format.specs.Ranges.{separate, bitCopy, rebuildKey}
+use Rattle.format.specs.Ranges.{separate, rebuildKey}
 use Rattle.format.specs.Refusals.{outcomeNumber}
 use Rattle.format.specs.declared.refusal.Outcome.{Outcome}
 
@@ -15,12 +15,6 @@ use Rattle.format.specs.declared.refusal.Outcome.{Outcome}
 pub record Separated (a b out : List ℕ) (r : Outcome) (after : List ℕ) : Type 0 where
   pub answer : outcomeNumber r ≡ refusalOf (separate (bitsOf a) (bitsOf b))
   pub written : after ≡ afterwards (separate (bitsOf a) (bitsOf b)) (pack 32) out
-
--- Bit copy into dst from the bit `to` on, of len bits of src from the bit `from` on: r is the answer, and after is what
--- dst holds then.
-pub record Copied (dst : List ℕ) (to : ℕ) (src : List ℕ) (from len : ℕ) (r : Outcome) (after : List ℕ) : Type 0 where
-  pub answer : outcomeNumber r ≡ refusalOf (bitCopy dst to src from len)
-  pub written : after ≡ afterwards (bitCopy dst to src from len) (λ d. d) dst
 
 -- Key rebuilding from p bits of prefix and s bits of sep from the bit `at` on, with `out` lent: r is the answer, and
 -- after is what `out` holds then.

@@ -1,3 +1,2 @@
--- What the contracts of bit_ops cite besides format's definitions. Read in this order.
-pub mod Runs
+-- What the contracts of bit_ops cite besides format's definitions.
 pub mod Calls

@@ -21,8 +21,8 @@ use Rattle.format.specs.Normal.{Choice, sum, candidate, bestUpTo, choice, first
 use Rattle.format.specs.Page.{Entry, bodyBytes}
 use Rattle.facts.proofs.ChoiceLaws.{candidate-m, candidate-one, candidate-shared, candidate-sum}
 use Rattle.facts.proofs.EntryLaws.{Ascending, firstKey-at, keys-at, length-keys}
-use Rattle.rows.specs.declared.key.Key.{Key}
-use Rattle.rows.specs.Keys.{keyBits}
+use Rattle.keys.specs.declared.Key.{Key}
+use Rattle.keys.specs.Keys.{keyBits}
 use Rattle.rows.specs.Rows.{rowKey, rowEntry, rows}
 use Rattle.rows.proofs.RowsLaws.{length-rows, rows-at}
 use Rattle.branch_ops.specs.declared.choice.Saving.{Saving}

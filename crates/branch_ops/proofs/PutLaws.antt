@@ -26,9 +26,9 @@ use Rattle.facts.proofs.BitsLaws.{
   length-bitsOf,
   length-pack,
 }
-use Rattle.rows.specs.declared.key.Key.{Key}
-use Rattle.rows.specs.Keys.{keyBits}
-use Rattle.rows.proofs.KeysLaws.{isKey-keyBits, length-keyBits}
+use Rattle.keys.specs.declared.Key.{Key}
+use Rattle.keys.specs.Keys.{keyBits}
+use Rattle.keys.proofs.KeysLaws.{isKey-keyBits, length-keyBits}
 use Rattle.parts.specs.Parts.{withKey, withNumber}
 use Rattle.parts.proofs.BitLaws.{withKey-inside, withNumber-inside}
 use Rattle.edits.specs.declared.edit.Edit.{Edit}

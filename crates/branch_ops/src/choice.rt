@@ -3,7 +3,7 @@
 // With q the bits that the first and the m-th key share, the choice (m, q) saves
 // (m - 2) q + min(length of the first, q) bits against whole lengths, and (1, 0) saves none.
 // What it means: specs/Choice.antt; that it is `choice` for ascending keys: proofs/ChoiceLaws.antt.
-use crate::number;
+use format::layout;
 use format::refusal::Refusal;
 use rows::table;
 ghost use mathlib.Core.Path.{_≡_};
@@ -11,9 +11,6 @@ ghost use Prim.Native.Nat.{_+_, _-_, _*_, _≤_, min};
 ghost use Rattle.format.specs.Normal.{keys};
 ghost use Rattle.rows.specs.Rows.{rows};
 ghost use Rattle.branch_ops.specs.Choice.{better, choiceAnswer, chosenOf};
-
-// The most entries that a page can have: each takes six bytes of its 4,086.
-const MOST: usize = 681;
 
 // How many entries leave the prefix out, its bits, and the bits of prefix and separators together.
 pub struct Choice {
@@ -40,7 +37,7 @@ fn saved(i: usize, q: usize, first: usize) -> usize
     requires { ⌜ (1 ≤ i) × (i ≤ 681) × (q ≤ 256) ⌝ }
     ensures answer { λ r. ⌜ r ≡ (i - 1) * q + min first q ⌝ }
 {
-    (i - 1) * q + number::least(first, q)
+    (i - 1) * q + numbers::least(first, q)
 }
 
 // The choice that saves more; the second where both save alike.
@@ -58,7 +55,7 @@ fn better_of(c: Saving, d: Saving) -> Saving
 pub fn choose(t: &[u64], n: usize) -> Chosen
     ensures answer { λ r. ⌜ choiceAnswer r ≡ chosenOf (keys (rows n (now (t .entry)))) ⌝ }
 {
-    if MOST < n {
+    if layout::MOST_ENTRIES < n {
         return Chosen::Refused(Refusal::NoRoom);
     }
     if n == 0 {
@@ -92,8 +89,8 @@ pub fn choose(t: &[u64], n: usize) -> Chosen
         );
         i += 1;
     }
-    let bits = words::over(total, best.bits);
-    if 4086 < 6 * n + (bits + 7) / 8 {
+    let bits = numbers::over(total, best.bits);
+    if layout::BODY_SIZE < 6 * n + (bits + 7) / 8 {
         return Chosen::Refused(Refusal::NoRoom);
     }
     Chosen::Taken(Choice {

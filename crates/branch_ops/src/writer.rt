@@ -2,25 +2,20 @@
 // written one behind the other, and the count and the padding at the end.
 // What it means: specs/Writer.antt; that the bytes are `recordOf` of the edits: `holds-finish` of
 // proofs/WriterLaws.antt.
-use crate::number;
 use edits::edit::Edit;
+use format::layout;
+use keys::Key;
 use parts::bits;
-use rows::key::Key;
 ghost use mathlib.Core.List.{_++_};
 ghost use mathlib.Core.Path.{_≡_};
 ghost use Prim.Native.Nat.{_+_, _*_, _^_, _≤_, _<_};
 ghost use lib.ListN.{length};
 ghost use Rattle.format.specs.Bits.{bits, bytesFor};
 ghost use Rattle.format.specs.Edit.{editBits};
-ghost use Rattle.rows.specs.Keys.{keyBits};
+ghost use Rattle.keys.specs.Keys.{keyBits};
 ghost use Rattle.edits.specs.Record.{editMeant};
 ghost use Rattle.branch_ops.specs.Writer.{startingWriter, pushedWriter, pushedBytes};
 ghost use Rattle.branch_ops.specs.Writer.{finishedBytes, withBits};
-
-// The most edits that a record can have, and the bytes of the longest record: 1,023 inserts.
-const MOST: usize = 1023;
-
-const LONGEST: usize = 37085;
 
 // The 44 bits of an Update as a number: its kind, ten bits of position, 32 of pointer.
 fn update_number(i: usize, pointer: u64) -> u64
@@ -80,11 +75,11 @@ impl RecordWriter {
         ensures answer { λ r. ⌜ r ≡ pushedWriter self (now (d .entry)) (editMeant e) ⌝ }
         ensures written { λ _. ⌜ now (d .exit) ≡ pushedBytes self (now (d .entry)) (editMeant e) ⌝ }
     {
-        if MOST <= self.edits {
+        if layout::MOST_EDITS <= self.edits {
             return self;
         }
         let size = e.size();
-        if number::least(d.len(), LONGEST) < number::bytes_for(self.bit, size) {
+        if numbers::least(d.len(), layout::LONGEST_RECORD) < numbers::bytes_for(self.bit, size) {
             return self;
         }
         put_edit(d, self.bit, e);
@@ -101,8 +96,8 @@ impl RecordWriter {
         ensures answer { λ r. ⌜ r ≡ bytesFor (self .bit) ⌝ }
         ensures written { λ _. ⌜ now (d .exit) ≡ finishedBytes self (now (d .entry)) ⌝ }
     {
-        let size = number::bytes_for(self.bit, 0);
-        let room = number::least(d.len(), LONGEST);
+        let size = numbers::bytes_for(self.bit, 0);
+        let room = numbers::least(d.len(), layout::LONGEST_RECORD);
         if room < 2 {
             return size;
         }

@@ -17,7 +17,7 @@ use Rattle.format.specs.Normal.{pageUnder}
 use Rattle.facts.proofs.AcceptedLaws.{Accepted, accepted-pageRefusal, length-prefix}
 use Rattle.facts.proofs.BitsLaws.{fill-short, length-bitsOf}
 use Rattle.facts.proofs.PageLaws.{entryBits-compressed, prefixOf-compressed, startOf-suc, storedLength-is}
-use Rattle.bit_ops.proofs.FieldLaws.{bitsOf-drop}
+use Rattle.bit_copy.proofs.FieldLaws.{bitsOf-drop}
 use Rattle.rows.specs.Rows.{rows, rowKey, rowSource}
 use Rattle.builder.specs.Writes.{ownBits, laidOut, Wrote}
 use Rattle.builder.specs.Over.{usable, kept, baseBits, overBits, pageOver, Based}

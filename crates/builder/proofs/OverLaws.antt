@@ -19,7 +19,7 @@ use Rattle.facts.proofs.BitsLaws.{length-bitsOf}
 use Rattle.facts.proofs.PageLaws.{startOf-suc, startOf-zero}
 use Rattle.facts.proofs.StoredLaws.{sum-take-suc, sum-take-le}
 use Rattle.format.specs.declared.refusal.Outcome.{Outcome}
-use Rattle.bit_ops.specs.Calls.{Copied}
+use Rattle.bit_copy.specs.Calls.{Copied}
 use Rattle.parts.proofs.BitLaws.{copied}
 use Rattle.rows.specs.Rows.{rowKey, rowSource}
 use Rattle.parts.specs.Parts.{leftOut, rowLengths}

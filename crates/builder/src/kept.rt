@@ -4,29 +4,10 @@ ghost use mathlib.Core.Path.{_≡_};
 ghost use mathlib.Core.Bool.{true};
 ghost use Prim.Native.Nat.{_≤_, _<_};
 ghost use lib.ListN.{length};
-ghost use Rattle.format.specs.Page.{endOf, startOf};
 ghost use Rattle.rows.specs.Rows.{rowSource};
 ghost use Rattle.builder.specs.Over.{kept, Run};
+use node::reader;
 use rows::table;
-
-// Where separator i of a page ends, in bits from the prefix's end.
-fn end_offset(p: &[u8], i: usize) -> usize
-    requires { ⌜ i ≤ 681 ⌝ }
-    ensures answer { λ r. ⌜ (r ≡ endOf (now (p .entry)) i) × (r < 65536) ⌝ }
-{
-    words::le_u16(p, 10 + 2 * i)
-}
-
-// Where it starts.
-pub(crate) fn start_offset(p: &[u8], i: usize) -> usize
-    requires { ⌜ i ≤ 681 ⌝ }
-    ensures answer { λ r. ⌜ (r ≡ startOf (now (p .entry)) i) × (r < 65536) ⌝ }
-{
-    if i < 1 {
-        return 0;
-    }
-    end_offset(p, i - 1)
-}
 
 // Whether the base has row i as the page is to have it.
 pub(crate) fn is_kept(
@@ -50,8 +31,8 @@ pub(crate) fn is_kept(
     }
     let j = s as usize;
     let k = table::key_of(t, i);
-    let end = end_offset(base, j);
-    if end != start_offset(base, j) + words::over(k.separator_len(), q) {
+    let end = reader::cell(base, j);
+    if end != reader::start_offset(base, j) + numbers::over(k.separator_len(), q) {
         return false;
     }
     8 * (10 + 2 * bn) + (q + end) <= 8 * base.len()

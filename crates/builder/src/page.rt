@@ -16,15 +16,17 @@ ghost use Rattle.format.specs.Bits.{bitsOf, pack};
 ghost use Rattle.format.specs.Key.{separatorLength};
 ghost use Rattle.format.specs.Page.{bodyBytes, startOf};
 ghost use Rattle.format.specs.Normal.{sum, pageUnder};
-ghost use Rattle.rows.specs.Keys.{keyBits};
+ghost use Rattle.keys.specs.Keys.{keyBits};
 ghost use Rattle.rows.specs.Rows.{rows};
 ghost use Rattle.parts.specs.Parts.{leftOut, rowLengths};
 ghost use Rattle.builder.specs.Writes.{rowBits, laidOut, Wrote, Pushed};
 ghost use Rattle.builder.specs.Over.{usable, overBits, pageOver};
 use crate::kept;
+use format::layout;
+use keys::Key;
+use node::reader;
 use parts::bits;
 use parts::fields;
-use rows::key::Key;
 use rows::table;
 
 // How far the bits of a page are written: n entries, and the end of the last one's separator in
@@ -35,11 +37,11 @@ pub struct BranchNodeBuilder {
 }
 
 impl BranchNodeBuilder {
-    pub const PAGE_SIZE: usize = 4096;
+    pub const PAGE_SIZE: usize = layout::PAGE_SIZE;
 
-    pub const HEADER_SIZE: usize = 10;
+    pub const HEADER_SIZE: usize = layout::HEADER_SIZE;
 
-    pub const BODY_SIZE: usize = 4086;
+    pub const BODY_SIZE: usize = layout::BODY_SIZE;
 
     // No entry, and bit offset 0.
     pub fn new() -> Self
@@ -68,7 +70,7 @@ impl BranchNodeBuilder {
         let n = self.n;
         let start = self.bit_offset;
         let skip = fields::left_out(n, m, q);
-        let len = words::over(k.separator_len(), skip);
+        let len = numbers::over(k.separator_len(), skip);
         bits::put_key(part, q + start, k, skip, len);
         BranchNodeBuilder {
             n: n + 1,
@@ -103,9 +105,9 @@ impl BranchNodeBuilder {
     {
         let n = self.n;
         let start = self.bit_offset;
-        let from = kept::start_offset(base, j);
-        let len = words::over(kept::start_offset(base, j + k), from);
-        bit_ops::bitwise_memcpy(part, q + start, base, 8 * (10 + 2 * bn) + (q + from), len);
+        let from = reader::start_offset(base, j);
+        let len = numbers::over(reader::start_offset(base, j + k), from);
+        bit_copy::bitwise_memcpy(part, q + start, base, 8 * (10 + 2 * bn) + (q + from), len);
         BranchNodeBuilder {
             n: n + k,
             bit_offset: start + len,
@@ -222,7 +224,7 @@ fn write_rows(
     if 256 < q {
         return false;
     }
-    if 681 < n {
+    if layout::MOST_ENTRIES < n {
         return false;
     }
     let sum = fields::stored_sum(t, n, m, q);
@@ -254,10 +256,10 @@ fn helps(base: &[u8], bn: usize, bm: usize, bq: usize, q: usize) -> bool
     if BranchNodeBuilder::PAGE_SIZE < base.len() {
         return false;
     }
-    if 681 < bn {
+    if layout::MOST_ENTRIES < bn {
         return false;
     }
-    bm <= 681
+    bm <= layout::MOST_ENTRIES
 }
 
 // The same with the help of a base page said to have bn entries, bm of them compressed by bq bits.

@@ -42,9 +42,9 @@ use Rattle.facts.proofs.BitsLaws.{allBelow-bitsOf, allBelow-drop}
 use Rattle.facts.proofs.EditLaws.{outside-keep, outside-update, anyOutside-head, anyOutside-tail}
 use Rattle.facts.proofs.EntryLaws.{Ascending, AreKeys, areKeys-at, ascending-next, each-at, keys-at, length-keys}
 use Rattle.facts.proofs.RecordLaws.{readEdits-written, readRecord-bits}
-use Rattle.rows.specs.Keys.{keyBits}
+use Rattle.keys.specs.Keys.{keyBits}
 use Rattle.rows.specs.Rows.{rowKey, rowSource, rowEntry, rows, withRow}
-use Rattle.rows.proofs.KeysLaws.{isKey-keyBits}
+use Rattle.keys.proofs.KeysLaws.{isKey-keyBits}
 use Rattle.rows.proofs.RowsLaws.{
   length-withRow,
   length-rows,

@@ -17,8 +17,8 @@ use Rattle.format.specs.Edit.{Edit, editBits, fieldBits, readRecord}
 use Rattle.format.specs.Key.{below}
 use Rattle.format.specs.Page.{Entry}
 use Rattle.facts.proofs.RecordLaws.{kind}
-use Rattle.rows.specs.declared.key.Key.{Key}
-use Rattle.rows.specs.Keys.{keyBits}
+use Rattle.keys.specs.declared.Key.{Key}
+use Rattle.keys.specs.Keys.{keyBits}
 use Rattle.rows.specs.Rows.{rowKey, rowPointer, rowEntry, withRow}
 use Rattle.edits.specs.declared.apply.State.{State}
 use Rattle.edits.specs.declared.edit.Edit.{Edit as CodeEdit}

@@ -67,9 +67,9 @@ use Rattle.facts.proofs.BitsLaws.{
 use Rattle.facts.proofs.RecordLaws.{kind, step, readEdits-suc, readEdits-zero, readRecord-bits}
 use Rattle.words.proofs.NumberLaws.{bits-split, take-bits}
 use Rattle.words.proofs.WindowLaws.{drop-fill}
-use Rattle.rows.specs.declared.key.Key.{Key}
-use Rattle.rows.specs.Keys.{keyBits}
-use Rattle.rows.proofs.KeysLaws.{length-keyBits}
+use Rattle.keys.specs.declared.Key.{Key}
+use Rattle.keys.specs.Keys.{keyBits}
+use Rattle.keys.proofs.KeysLaws.{length-keyBits}
 use Rattle.edits.specs.declared.edit.Edit.{Edit as CodeEdit}
 use Rattle.edits.specs.declared.edit.Edit.the-variants.{
   Insert as CodeInsert,

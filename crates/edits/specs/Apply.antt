@@ -15,7 +15,7 @@ use Rattle.format.specs.Edit.Edit.{Insert, Update, Keep}
 use Rattle.format.specs.Key.{below}
 use Rattle.format.specs.Page.{Entry}
 use Rattle.format.specs.Refusals.{refusalNumber}
-use Rattle.rows.specs.Keys.{keyBits}
+use Rattle.keys.specs.Keys.{keyBits}
 use Rattle.rows.specs.Rows.{rowKey, rowEntry, withRow}
 use Rattle.edits.specs.declared.apply.Edited.{Edited}
 use Rattle.edits.specs.declared.apply.Edited.the-variants.{Entries, Refused}

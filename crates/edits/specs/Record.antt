@@ -12,7 +12,7 @@ use Rattle.format.specs.Bits.{bitsOf, value, fill}
 use Rattle.format.specs.Build.{malformed}
 use Rattle.format.specs.Edit.{Edit, fieldBits, editOf}
 use Rattle.format.specs.Edit.Edit.{Insert, Update, Keep}
-use Rattle.rows.specs.Keys.{keyBits}
+use Rattle.keys.specs.Keys.{keyBits}
 use Rattle.edits.specs.declared.edit.Edit.{Edit as CodeEdit}
 use Rattle.edits.specs.declared.edit.Edit.the-variants.{
   Insert as CodeInsert,

@@ -4,14 +4,14 @@
 use crate::edit::Edit;
 use crate::record;
 use format::refusal::Refusal;
-use rows::key::Key;
+use keys::Key;
 use rows::table;
 ghost use mathlib.Core.Bool.{true};
 ghost use mathlib.Core.Path.{_≡_};
 ghost use Prim.Native.Nat.{_+_, _-_, _^_, _≤_, _<_};
 ghost use Rattle.format.specs.Build.{editsOf};
 ghost use Rattle.format.specs.Edit.{readRecord};
-ghost use Rattle.rows.specs.Keys.{keyBits};
+ghost use Rattle.keys.specs.Keys.{keyBits};
 ghost use Rattle.rows.specs.Rows.{rows};
 ghost use Rattle.edits.specs.Record.{editMeant, formedIn, reachOf};
 ghost use Rattle.edits.specs.Apply.{editedAnswer, newCount, newTable};

@@ -4,7 +4,7 @@ ghost use Prim.Native.Nat.{_≤_};
 ghost use lib.ListN.{length};
 ghost use Rattle.format.specs.Edit.{editBits};
 ghost use Rattle.edits.specs.Record.{editMeant};
-use rows::key::Key;
+use keys::Key;
 
 pub enum Edit {
     // A key and its pointer.

@@ -2,4 +2,4 @@
 // record", and the refusals 10 to 13.
 pub mod apply;
 pub mod edit;
-mod record;
+pub mod record;

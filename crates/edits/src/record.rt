@@ -10,7 +10,8 @@
 //       ..    zero bits to the byte's end, and no byte more
 // What it means: format's specs/Edit.antt, and specs/Record.antt.
 use crate::edit::Edit;
-use rows::key::Key;
+use format::layout;
+use keys::Key;
 ghost use mathlib.Core.Bool.{true, not};
 ghost use mathlib.Core.Path.{_≡_};
 ghost use Prim.Native.Nat.{_+_, _*_, _≤_, _<_};
@@ -18,12 +19,9 @@ ghost use lib.ListN.{length, drop};
 ghost use Rattle.format.specs.Bits.{bitsOf, fill};
 ghost use Rattle.format.specs.Build.{editsOf};
 ghost use Rattle.format.specs.Edit.{fieldBits, padding, readRecord, anyOutside};
-ghost use Rattle.rows.specs.Keys.{keyBits};
+ghost use Rattle.keys.specs.Keys.{keyBits};
 ghost use Rattle.edits.specs.Record.{editMeant, reachOf, formedIn, countOf, editAt, spanAt};
 ghost use Rattle.edits.specs.Record.{HeadOf, insideHead};
-
-// The bytes of the longest record: 1,023 inserts.
-const LONGEST: usize = 37085;
 
 // The fields in an edit's first 44 bits: kind; position or start; end; pointer of an Update.
 struct Head {
@@ -60,7 +58,7 @@ fn field_bits(kind: u64) -> usize
 }
 
 // How many edits the record says that it has.
-pub(crate) fn count(s: &[u8]) -> usize
+pub fn count(s: &[u8]) -> usize
     ensures answer { λ r. ⌜ (r ≡ countOf (now (s .entry))) × (r < 1024) ⌝ }
 {
     (words::at_bit(s, 0, 0) / 0x40000000000000) as usize
@@ -99,13 +97,13 @@ fn padded(s: &[u8], p: usize) -> bool
 }
 
 // Whether the record is well-formed: refusal 10 is given where it is not.
-pub(crate) fn formed(s: &[u8]) -> bool
+pub fn formed(s: &[u8]) -> bool
     ensures answer { λ r. ⌜ r ≡ formedIn (readRecord (now (s .entry))) ⌝ }
 {
     if s.len() < 2 {
         return false;
     }
-    if LONGEST < s.len() {
+    if layout::LONGEST_RECORD < s.len() {
         return false;
     }
     let n = count(s);
@@ -170,7 +168,7 @@ fn key_at(s: &[u8], p: usize) -> Key
 }
 
 // The edit at bit p, with zeros past the record's end.
-pub(crate) fn edit_at(s: &[u8], p: usize) -> Edit
+pub fn edit_at(s: &[u8], p: usize) -> Edit
     ensures answer { λ r. ⌜ (editMeant r ≡ editAt (drop p (bitsOf (now (s .entry)))))
         × (reachOf (editMeant r) < 1024) ⌝ }
 {

@@ -326,10 +326,6 @@ pub bytesFor-least : (n k : ℕ) → n ≤ 8 * k → bytesFor n ≤ k
 unfolding bytesFor
 bytesFor-least n k h = omega arith
 
-pub bytesFor-bytes : (k : ℕ) → bytesFor (8 * k) ≡ k
-unfolding bytesFor
-bytesFor-bytes k = omega arith
-
 pub bytesFor-mono : (m n : ℕ) → m ≤ n → bytesFor m ≤ bytesFor n
 unfolding bytesFor
 bytesFor-mono m n h = omega arith

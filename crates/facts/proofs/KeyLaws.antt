@@ -106,13 +106,6 @@ below-trichotomy (x ∷ xs) (y ∷ ys) = go (eqb x y) (ltb x y) refl refl (below
         let d : x ≡ y → ⊥ = eqb-false x y p in
         inr (inr (below-less y x ys xs (omega arith)))
 
-pub below-asymmetric : (a b : List ℕ) → below a b ≡ true → below b a ≡ false
-below-asymmetric a b p = go (below b a) refl
-  where
-    go : (t : Bool) → below b a ≡ t → t ≡ false
-    go false q = refl
-    go true q = sym (below-transitive a b a p q) ∙ below-irreflexive a
-
 -- what is not below is equal or above
 pub below-false : (a b : List ℕ) → below a b ≡ false → (a ≡ b) ⊎ (below b a ≡ true)
 below-false a b p = go (below-trichotomy a b)
@@ -166,11 +159,6 @@ module _ (x y : ℕ) (xs ys : List ℕ) where
   unfolding sharedBits
   sharedBits-stop d = rw (ne-eqb x y d)
 
-pub sharedBits-nil : (a : List ℕ) → sharedBits a [] ≡ 0
-unfolding sharedBits
-sharedBits-nil [] = refl
-sharedBits-nil (x ∷ xs) = refl
-
 pub sharedBits-symmetric : (a b : List ℕ) → sharedBits a b ≡ sharedBits b a
 unfolding sharedBits
 sharedBits-symmetric [] [] = refl
@@ -198,9 +186,6 @@ sharedBits-bound (x ∷ xs) (y ∷ ys) = go (eqb x y) refl (sharedBits-bound xs 
     go : (t : Bool) → eqb x y ≡ t → sharedBits xs ys ≤ length xs → sharedBits (x ∷ xs) (y ∷ ys) ≤ suc (length xs)
     go true q ih = rw q (omega arith)
     go false q ih = rw q (omega arith)
-
-pub sharedBits-bound-right : (a b : List ℕ) → sharedBits a b ≤ length b
-sharedBits-bound-right a b = omega (arith, sharedBits-symmetric a b, sharedBits-bound b a)
 
 pub sharedBits-take : (a b : List ℕ) → take (sharedBits a b) a ≡ take (sharedBits a b) b
 unfolding sharedBits
@@ -376,10 +361,6 @@ separatorLength-least k n p b f = omega (arith, lastSet-least k n b f)
 pub separatorLength-bound : (k : List ℕ) → IsKey k → separatorLength k ≤ 256
 unfolding separatorLength
 separatorLength-bound k h = omega (arith, h .size, lastSet-bound k (h .bits))
-
--- a bit that is set lies before it
-pub separatorLength-set : (k : List ℕ) (i : ℕ) → 0 < getD k i 0 → i < separatorLength k
-separatorLength-set k i h = omega (arith, lastSet-set k i h, lastSet-separatorLength k)
 
 -- from there on bits are zero
 pub separatorLength-zero : (k : List ℕ) (i : ℕ) → separatorLength k ≤ i → getD k i 0 ≡ 0

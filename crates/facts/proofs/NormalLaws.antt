@@ -399,21 +399,6 @@ module _ (pn : ℕ) (es : List Entry) (small : pn < 2 ^ 32) (some : 1 ≤ length
   unfolding normalPage
   count-normalPage = count-pageUnder pn es (choice (keys es) .m) (choice (keys es) .q) (laid-normal pn es small some sound fitting)
 
-  pub compressed-normalPage : compressed (normalPage pn es) ≡ choice (keys es) .m
-  unfolding normalPage
-  compressed-normalPage =
-      compressed-pageUnder pn es (choice (keys es) .m) (choice (keys es) .q) (laid-normal pn es small some sound fitting)
-
-  pub prefixLength-normalPage : prefixLength (normalPage pn es) ≡ choice (keys es) .q
-  unfolding normalPage
-  prefixLength-normalPage =
-      prefixLength-pageUnder pn es (choice (keys es) .m) (choice (keys es) .q) (laid-normal pn es small some sound fitting)
-
-  pub entryOf-normalPage : (i : ℕ) (d : Entry) → i < length es → entryOf (normalPage pn es) i ≡ getD es i d
-  unfolding normalPage
-  entryOf-normalPage =
-      entryOf-pageUnder pn es (choice (keys es) .m) (choice (keys es) .q) (laid-normal pn es small some sound fitting)
-
   pub entries-normalPage : entries (normalPage pn es) ≡ es
   unfolding normalPage
   entries-normalPage =

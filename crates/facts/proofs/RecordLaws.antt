@@ -91,10 +91,6 @@ allBelow-editsBits (e ∷ es) w = allBelow-append 2 (editBits e) (editsBits es) 
 allBelow-headed : (es : List Edit) → AllWellFormed es → AllBelow 2 (headed es)
 allBelow-headed es w = allBelow-append 2 (bits 10 (length es)) (editsBits es) (allBelow-bits 10 (length es)) (allBelow-editsBits es w)
 
-pub allBelow-recordOf : (es : List Edit) → AllWellFormed es → AllBelow 256 (recordOf es)
-allBelow-recordOf es w =
-    subst (AllBelow 256) (sym (recordOf-pack es)) (allBelow-pack (bytesFor (length (headed es))) (headed es) (allBelow-headed es w))
-
 -- ---- an edit as its kind and its fields
 
 abbrev pub kind : Edit → ℕ

@@ -26,8 +26,8 @@ use Rattle.format.specs.Page.{
 use Rattle.facts.proofs.BitsLaws.{fill-exact, take-fill}
 use Rattle.facts.proofs.PageLaws.{length-body}
 use Rattle.words.proofs.WindowLaws.{drop-bitsOf}
-use Rattle.rows.specs.declared.key.Key.{Key}
-use Rattle.rows.specs.Keys.{keyBits}
+use Rattle.keys.specs.declared.Key.{Key}
+use Rattle.keys.specs.Keys.{keyBits}
 use Rattle.node.specs.declared.reader.Header.{Header}
 use Rattle.node.specs.Reader.{SizesFit}
 

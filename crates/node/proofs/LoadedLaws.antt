@@ -158,10 +158,3 @@ module _ (p t : List ℕ) where
         ap₂ rows (sym (length-entries p)) (loaded-accepted h e)
         ∙ rows-withRows t (entries p) (areKeys-entries p)
         (subst (λ (n : ℕ). n ≤ length t / 6) (sym (length-entries p)) room)
-
-    -- each with its position
-    pub loaded-source : (i : ℕ) → i < count p → rowSource (loaded p t) i ≡ i
-    loaded-source i l =
-        let z : 0 + i ≡ i = omega arith in
-        ap₂ rowSource (loaded-accepted h e) (sym z)
-        ∙ rowSource-withRows t 0 (entries p) i (subst (λ (n : ℕ). i < n) (sym (length-entries p)) l) (omega arith) ∙ z

@@ -34,8 +34,8 @@ use Rattle.format.specs.Page.{
 }
 use Rattle.facts.proofs.AnswerLaws.{or-false}
 use Rattle.facts.proofs.PageLaws.{startOf-zero, startOf-suc}
-use Rattle.rows.specs.declared.key.Key.{Key}
-use Rattle.rows.specs.Keys.{keyBits}
+use Rattle.keys.specs.declared.Key.{Key}
+use Rattle.keys.specs.Keys.{keyBits}
 use Rattle.node.specs.declared.reader.Header.{Header as Numbers}
 use Rattle.node.specs.Reader.{Early, ShapeFits, SizesFit, falling, headerMeant, misfit, unordered}
 

@@ -29,7 +29,7 @@ ghost use Rattle.format.specs.Page.{
   readEntry,
   startOf,
 };
-ghost use Rattle.rows.specs.Keys.{keyBits};
+ghost use Rattle.keys.specs.Keys.{keyBits};
 ghost use Rattle.rows.specs.Rows.{withRows};
 ghost use Rattle.node.specs.Reader.{
   Shaping,
@@ -42,9 +42,9 @@ ghost use Rattle.node.specs.Reader.{
   pointerRead,
   unordered,
 };
-use crate::layout;
+use format::layout;
 use format::refusal::Refusal;
-use rows::key::Key;
+use keys::Key;
 use rows::table;
 
 // What a page's header says, and how many bits prefix and separators have.
@@ -75,11 +75,11 @@ pub fn cell(page: &[u8], i: usize) -> usize
     if page.len() / 2 < i {
         return 0;
     }
-    words::le_u16(page, layout::HEADER_SIZE + 2 * i)
+    numbers::le_u16(page, layout::HEADER_SIZE + 2 * i)
 }
 
 // Where separator i starts.
-fn start_offset(page: &[u8], i: usize) -> usize
+pub fn start_offset(page: &[u8], i: usize) -> usize
     ensures answer { λ r. ⌜ (r ≡ startOf (now (page .entry)) i) × (r < 65536) ⌝ }
 {
     if i == 0 { 0 } else { cell(page, i - 1) }
@@ -90,7 +90,7 @@ fn node_pointer(page: &[u8], h: Header, i: usize) -> u64
     requires { ⌜ SizesFit (now page) h × (i < h .n) ⌝ }
     ensures answer { λ r. ⌜ r ≡ pointerOf (now (page .entry)) i ⌝ }
 {
-    words::le_u32(page, layout::PAGE_SIZE - 4 * h.n + 4 * i)
+    numbers::le_u32(page, layout::PAGE_SIZE - 4 * h.n + 4 * i)
 }
 
 // How many bits of entry i are the prefix's.
@@ -155,7 +155,7 @@ fn get_key(page: &[u8], h: Header, prefix: Key, i: usize, start: usize, end: usi
         × (start ≡ startOf (now page) i) × (start < 65536) × (end ≡ endOf (now page) i) ⌝ }
     ensures answer { λ r. ⌜ keyBits r ≡ keyOf (now (page .entry)) i ⌝ }
 {
-    let len = words::over(end, start);
+    let len = numbers::over(end, start);
     let bit = 8 * (layout::HEADER_SIZE + 2 * h.n) + h.q + start;
     prefix.with_bits(prefix_bits(h, i), page, bit, len)
 }
@@ -167,7 +167,7 @@ fn next_key(page: &[u8], h: Header, prefix: Key, i: usize, start: usize, end: us
         × (start ≡ startOf (now page) i) × (start < 65536) × (end ≡ endOf (now page) i) ⌝ }
     ensures answer { λ r. ⌜ keyBits r ≡ keyOf (now (page .entry)) i ⌝ }
 {
-    let len = words::over(end, start);
+    let len = numbers::over(end, start);
     let bit = 8 * (layout::HEADER_SIZE + 2 * h.n) + h.q + start;
     prefix.with_few_bits(prefix_bits(h, i), page, bit, len)
 }
@@ -193,18 +193,18 @@ fn sized(page: &[u8]) -> Checked
     if page.len() != layout::PAGE_SIZE {
         return Checked::Refused(Refusal::PageLength);
     }
-    let n = words::le_u16(page, 4);
+    let n = numbers::le_u16(page, 4);
     if n == 0 {
         return Checked::Refused(Refusal::NoEntries);
     }
-    let m = words::le_u16(page, 6);
+    let m = numbers::le_u16(page, 6);
     if m == 0 {
         return Checked::Refused(Refusal::CompressedCount);
     }
     if n < m {
         return Checked::Refused(Refusal::CompressedCount);
     }
-    let q = words::le_u16(page, 8);
+    let q = numbers::le_u16(page, 8);
     if 256 < q {
         return Checked::Refused(Refusal::PrefixLength);
     }
@@ -215,7 +215,7 @@ fn sized(page: &[u8]) -> Checked
     if layout::BODY_SIZE < 6 * n + (bits + 7) / 8 {
         return Checked::Refused(Refusal::BodyTooLong);
     }
-    let number = words::le_u32(page, 0);
+    let number = numbers::le_u32(page, 0);
     Checked::Page(Header {
         number,
         n,

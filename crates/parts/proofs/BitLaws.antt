@@ -21,17 +21,17 @@ use Rattle.facts.proofs.BitsLaws.{bitsOf-append, bitsOf-pack, bitsOf-zeros, fil
 use Rattle.facts.proofs.BitsLaws.{bits-mod, fill-take, length-bits, length-pack, take-fill, take-zeros}
 use Rattle.facts.proofs.BitsLaws.{allBelow-bitsOf, allBelow-take, at-below, pack-bitsOf, pack-zeros, packed}
 use Rattle.facts.proofs.RangesLaws.{bitsOf-bitsCopied}
-use Rattle.bit_ops.specs.Calls.{Copied}
-use Rattle.bit_ops.proofs.FieldLaws.{bitsOf-take}
-use Rattle.bit_ops.proofs.RunLaws.{end-inside, paste-add}
-use Rattle.bit_ops.proofs.WordLaws.{word-pasted, word-stored, joined-paste}
+use Rattle.bit_copy.specs.Calls.{Copied}
+use Rattle.bit_copy.proofs.FieldLaws.{bitsOf-take}
+use Rattle.bit_copy.proofs.RunLaws.{end-inside, paste-add}
+use Rattle.bit_copy.proofs.WordLaws.{word-pasted, word-stored, joined-paste}
 use Rattle.words.specs.Words.{withWord, wordBytes, wordBits}
 use Rattle.words.proofs.NumberLaws.{bits-split}
 use Rattle.words.proofs.WindowLaws.{moved-bits}
 use Rattle.words.proofs.WordsLaws.{withWord-in, length-withWord, bitsOf-wordBytes, wordBits-in}
-use Rattle.rows.specs.declared.key.Key.{Key}
-use Rattle.rows.specs.Keys.{keyBits}
-use Rattle.rows.proofs.KeysLaws.{isKey-keyBits, keyBits-words}
+use Rattle.keys.specs.declared.Key.{Key}
+use Rattle.keys.specs.Keys.{keyBits}
+use Rattle.keys.proofs.KeysLaws.{isKey-keyBits, keyBits-words}
 use Rattle.parts.specs.Parts.{withKey, withFirst, withNumber, cleared}
 
 -- ---- bits of a key copied

@@ -15,9 +15,9 @@ use Rattle.format.specs.Page.{Entry}
 use Rattle.format.specs.Normal.{pointers, storedLengths}
 use Rattle.facts.proofs.EntryLaws.{length-keys, length-pointers, keys-at, pointers-at}
 use Rattle.facts.proofs.StoredLaws.{length-storedLengths, storedLengths-compressed, storedLengths-plain}
-use Rattle.rows.specs.Keys.{keyBits}
+use Rattle.keys.specs.Keys.{keyBits}
 use Rattle.rows.specs.Rows.{rowKey, rowPointer, rowEntry, rows}
-use Rattle.rows.proofs.KeysLaws.{isKey-keyBits}
+use Rattle.keys.proofs.KeysLaws.{isKey-keyBits}
 use Rattle.rows.proofs.RowsLaws.{length-rows, rows-at}
 use Rattle.parts.specs.Parts.{leftOut, rowKeys, rowLengths}
 

@@ -1,15 +1,15 @@
 // Bits in bytes: those of keys and of numbers, and the zeros behind them. Bits of a word go into the
 // bytes as a word; near the end of the bytes, and bits across a key's words, by
-// `bit_ops::bitwise_memcpy`.
+// `bit_copy::bitwise_memcpy`.
 ghost use mathlib.Core.Path.{_≡_};
 ghost use mathlib.Core.List.{_++_};
 ghost use Prim.Native.Nat.{_+_, _-_, _*_, _^_, _≤_, _<_};
 ghost use lib.ListN.{length, take, replicate};
 ghost use lib.Seq.{paste};
 ghost use Rattle.format.specs.Bits.{bits, bitsOf};
-ghost use Rattle.rows.specs.Keys.{keyBits};
+ghost use Rattle.keys.specs.Keys.{keyBits};
 ghost use Rattle.parts.specs.Parts.{withKey, withFirst, withNumber, cleared};
-use rows::key::Key;
+use keys::Key;
 
 // The first n bits of a word into the eight bytes from i on, which are there, from bit h on.
 fn put_in_word(d: &mut [u8], i: usize, h: usize, x: u64, n: usize)
@@ -44,13 +44,13 @@ fn put_word(d: &mut [u8], at: usize, x: u64, n: usize)
         ≡ paste (bitsOf (now (d .entry))) at (bits 64 x) n ⌝ }
 {
     let i = at / 8;
-    if i < words::over(d.len(), 15) {
+    if i < numbers::over(d.len(), 15) {
         put_in_two(d, i, at % 8, x, n);
         return;
     }
     let mut w = [0u8; 8];
     words::store(&mut w, 0, x);
-    bit_ops::bitwise_memcpy(d, at, &w, 0, n);
+    bit_copy::bitwise_memcpy(d, at, &w, 0, n);
 }
 
 // The first n bits of a word into d from the bit `at` on; nothing where they are not in d.
@@ -86,7 +86,7 @@ fn put_by_bytes(d: &mut [u8], at: usize, k: Key, from: usize, len: usize)
 {
     let mut bytes = [0u8; 32];
     k.to_bytes(&mut bytes);
-    bit_ops::bitwise_memcpy(d, at, &bytes, from, len);
+    bit_copy::bitwise_memcpy(d, at, &bytes, from, len);
 }
 
 // Copies `len` bits of a key from its bit `from` on to d from the bit `at` on; nothing where they
@@ -101,7 +101,7 @@ pub fn put_key(d: &mut [u8], at: usize, k: Key, from: usize, len: usize)
         }
         if len == 256 {
             if from == 0 {
-                if at / 64 < words::over(d.len() / 8, 5) {
+                if at / 64 < numbers::over(d.len() / 8, 5) {
                     put_whole(d, at / 8, at % 8, k);
                     return;
                 }
@@ -150,7 +150,7 @@ pub fn clear_from(d: &mut [u8], at: usize)
     }
     if 0 < h {
         let zero = [0u8; 1];
-        bit_ops::bitwise_memcpy(d, at, &zero, 0, 8 - h);
+        bit_copy::bitwise_memcpy(d, at, &zero, 0, 8 - h);
         clear_bytes(d, i + 1);
     } else {
         clear_bytes(d, i);

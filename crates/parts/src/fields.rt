@@ -6,7 +6,8 @@ ghost use Rattle.format.specs.Key.{separatorLength};
 ghost use Rattle.rows.specs.Rows.{rowKey};
 ghost use Rattle.parts.specs.Parts.{leftOut, storedSum};
 ghost use Rattle.parts.specs.Parts.{withHeader, withOffsets, withPointers};
-use crate::numbers;
+use crate::little;
+use format::layout;
 use rows::table;
 
 // How many bits of its key entry i leaves out.
@@ -23,14 +24,14 @@ fn stored_len(t: &[u64], i: usize, m: usize, q: usize) -> usize
 {
     let k = table::key_of(t, i);
     let len = k.separator_len();
-    words::over(len, left_out(i, m, q))
+    numbers::over(len, left_out(i, m, q))
 }
 
 // How many bits of n keys are stored; 0 for more than 681.
 pub fn stored_sum(t: &[u64], n: usize, m: usize, q: usize) -> usize
     ensures answer { λ r. ⌜ (r ≡ storedSum (now (t .entry)) n m q) × (r ≤ 174336) ⌝ }
 {
-    if 681 < n {
+    if layout::MOST_ENTRIES < n {
         return 0;
     }
     let mut end: usize = 0;
@@ -46,13 +47,13 @@ pub fn stored_sum(t: &[u64], n: usize, m: usize, q: usize) -> usize
 pub fn put_header(out: &mut [u8], number: u32, n: usize, m: usize, q: usize)
     ensures written { λ _. ⌜ now (out .exit) ≡ withHeader (now (out .entry)) number n m q ⌝ }
 {
-    if out.len() < 10 {
+    if out.len() < layout::HEADER_SIZE {
         return;
     }
-    numbers::put_quad(out, 0, number as u64);
-    numbers::put_pair(out, 4, n);
-    numbers::put_pair(out, 6, m);
-    numbers::put_pair(out, 8, q);
+    little::put_quad(out, 0, number as u64);
+    little::put_pair(out, 4, n);
+    little::put_pair(out, 6, m);
+    little::put_pair(out, 8, q);
 }
 
 // Writes the end offsets of n entries, counted from the prefix's end, into a part of 2n bytes;
@@ -61,7 +62,7 @@ pub fn put_offsets(part: &mut [u8], t: &[u64], n: usize, m: usize, q: usize)
     ensures written { λ _. ⌜ now (part .exit)
         ≡ withOffsets (now (part .entry)) (now (t .entry)) n m q ⌝ }
 {
-    if 681 < n {
+    if layout::MOST_ENTRIES < n {
         return;
     }
     if part.len() != 2 * n {
@@ -71,7 +72,7 @@ pub fn put_offsets(part: &mut [u8], t: &[u64], n: usize, m: usize, q: usize)
     let mut i: usize = 0;
     while i < n {
         end += stored_len(t, i, m, q);
-        numbers::put_pair(part, 2 * i, end);
+        little::put_pair(part, 2 * i, end);
         i += 1;
     }
 }
@@ -82,7 +83,7 @@ pub fn put_pointers(part: &mut [u8], t: &[u64], n: usize)
     ensures written { λ _. ⌜ now (part .exit)
         ≡ withPointers (now (part .entry)) (now (t .entry)) n ⌝ }
 {
-    if 681 < n {
+    if layout::MOST_ENTRIES < n {
         return;
     }
     if part.len() != 4 * n {
@@ -90,7 +91,7 @@ pub fn put_pointers(part: &mut [u8], t: &[u64], n: usize)
     }
     let mut i: usize = 0;
     while i < n {
-        numbers::put_quad(part, 4 * i, table::pointer_of(t, i));
+        little::put_quad(part, 4 * i, table::pointer_of(t, i));
         i += 1;
     }
 }

@@ -2,4 +2,4 @@
 // is total: where a part has not the size that it takes, it is left as it was.
 pub mod bits;
 pub mod fields;
-mod numbers;
+mod little;

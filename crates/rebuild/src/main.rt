@@ -6,8 +6,8 @@
 // It reads files, calls the library and prints. A message on standard error names the file that is
 // to blame; a refusal has its number and document 01's words. PAGE and UNDO are written after an
 // accepted build alone, UNDO first, so that no page is replaced without the way back.
+mod digits;
 mod files;
-mod numbers;
 mod records;
 mod say;
 mod show;
@@ -18,23 +18,12 @@ use format::refusal::Refusal;
 use libc::STDERR_FILENO;
 use node::reader;
 use node::reader::Checked;
-ghost use Prim.Native.Nat.{_≤_};
 
 // How a file is looked at.
 enum Look {
     Check,
     Show,
     Record,
-}
-
-// The lesser of two numbers.
-fn least(a: usize, b: usize) -> usize
-    ensures { λ r. ⌜ (r ≤ a) × (r ≤ b) ⌝ }
-{
-    if a < b {
-        return a;
-    }
-    b
 }
 
 // The argument that names the file which a build's refusal is about: BASE for 1 to 8, else RECORD.
@@ -60,7 +49,7 @@ fn build_into(base: &[u8], rec: &[u8], number: u32, page: &mut [u8], undo: &mut 
     match build::build(base, rec, number, page, undo) {
         Built::Refused(why) => say::refused(blamed(why), why),
         Built::Page(v) => {
-            let len = least(v.undo, undo.len());
+            let len = numbers::least(v.undo, undo.len());
             finish(number as u64, v, page, &undo[0..len]);
         }
     }
@@ -88,7 +77,7 @@ fn build_from(number: u32, base: &mut [u8], rec: &mut [u8]) {
 }
 
 fn run_build() {
-    let number = numbers::argument(4);
+    let number = digits::argument(4);
     if !number.is {
         return;
     }

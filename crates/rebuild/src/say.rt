@@ -1,9 +1,9 @@
 // What is printed: a page's fields and keys to standard output, refusals to standard error.
 use crate::files;
 use format::refusal::Refusal;
+use keys::Key;
 use libc::STDERR_FILENO;
 use libc::STDOUT_FILENO;
-use rows::key::Key;
 
 // A name and its number.
 pub fn field(name: &[u8], n: u64) {

@@ -11,7 +11,7 @@ fn stored(page: &[u8], i: usize) -> usize {
     if i == 0 {
         return reader::cell(page, 0);
     }
-    words::over(reader::cell(page, i), reader::cell(page, i - 1))
+    numbers::over(reader::cell(page, i), reader::cell(page, i - 1))
 }
 
 // Entry i: its index, compressed or plain, its stored bits, its key and its pointer. Whether it was

@@ -66,7 +66,7 @@ fn copy_in(s: &[u8], room: &mut [u8]) -> bool {
     let src = cases::field(s, 2);
     let start = src.start;
     let end = src.end;
-    let r = bit_ops::bitwise_memcpy(
+    let r = bit_copy::bitwise_memcpy(
         dst,
         cases::number(s, 1) as usize,
         &s[start..end],

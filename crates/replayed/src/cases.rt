@@ -16,7 +16,7 @@ pub fn how_many(fd: i32) -> u64 {
     if io::read_full(fd, &mut head) != 4 {
         return 0;
     }
-    words::le_u32(&head[..], 0)
+    numbers::le_u32(&head[..], 0)
 }
 
 // A case that has been read: its operation, and how many bytes its fields have.
@@ -28,8 +28,8 @@ pub struct Case {
 fn opened(head: &[u8; 5]) -> Case {
     let s = &head[..];
     Case {
-        op: words::byte_at(s, 0) as usize,
-        size: words::le_u32(s, 1) as usize,
+        op: numbers::byte_at(s, 0) as usize,
+        size: numbers::le_u32(s, 1) as usize,
     }
 }
 
@@ -68,7 +68,7 @@ fn field_at(s: &[u8], at: usize) -> Part
     if s.len() - 4 < at {
         return none;
     }
-    let n = words::le_u32(s, at) as usize;
+    let n = numbers::le_u32(s, at) as usize;
     if s.len() - 4 - at < n {
         return none;
     }
@@ -95,16 +95,7 @@ pub fn number(s: &[u8], k: usize) -> u64 {
     if f.end - f.start != 8 {
         return 0xFFFFFFFFFFFFFFFF;
     }
-    words::le_u32(s, f.start) + words::le_u32(s, f.start + 4) * 0x100000000
-}
-
-fn least(a: usize, b: usize) -> usize
-    ensures { λ r. ⌜ (r ≤ a) × (r ≤ b) ⌝ }
-{
-    if a < b {
-        return a;
-    }
-    b
+    numbers::le_u32(s, f.start) + numbers::le_u32(s, f.start + 4) * 0x100000000
 }
 
 // Puts the bytes of field k at the start of out, as many as it has room for, and answers how many.
@@ -113,7 +104,7 @@ pub fn load(s: &[u8], k: usize, out: &mut [u8]) -> usize
 {
     let f = field(s, k);
     let start = f.start;
-    let n = least(f.end - start, out.len());
+    let n = numbers::least(f.end - start, out.len());
     for i in 0..n {
         out[i] = s[start + i];
     }

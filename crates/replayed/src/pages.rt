@@ -12,25 +12,25 @@ fn is_size(r: Size, s: &[u8], k: usize) -> bool
     requires { ⌜ k < 8 ⌝ }
 {
     match r {
-        Size::Is(x) => cases::number(s, k) == 0 && cases::number(s, k + 1) == x,
+        Size::Is(x) => cases::number(s, k) == 0 && cases::number(s, k + 1) == x as u64,
         Size::Refused(why) => cases::number(s, k) == why.number(),
     }
 }
 
 // Fields: q, sum, n, refusal, size.
 pub fn body(s: &[u8]) -> bool {
-    let q = cases::number(s, 0);
-    let sum = cases::number(s, 1);
-    let n = cases::number(s, 2);
+    let q = cases::number(s, 0) as usize;
+    let sum = cases::number(s, 1) as usize;
+    let n = cases::number(s, 2) as usize;
     is_size(sizes::body_size(q, sum, n), s, 3)
 }
 
 // Fields: q, sum, n, first length, refusal, size.
 pub fn whole(s: &[u8]) -> bool {
-    let q = cases::number(s, 0);
-    let sum = cases::number(s, 1);
-    let n = cases::number(s, 2);
-    let first = cases::number(s, 3);
+    let q = cases::number(s, 0) as usize;
+    let sum = cases::number(s, 1) as usize;
+    let n = cases::number(s, 2) as usize;
+    let first = cases::number(s, 3) as usize;
     is_size(
         sizes::uncompressed_separator_range_size(q, sum, n, first),
         s,
@@ -40,10 +40,10 @@ pub fn whole(s: &[u8]) -> bool {
 
 // Fields: first length, m, sum of the others, q, refusal, size.
 pub fn stored(s: &[u8]) -> bool {
-    let first = cases::number(s, 0);
-    let m = cases::number(s, 1);
-    let others = cases::number(s, 2);
-    let q = cases::number(s, 3);
+    let first = cases::number(s, 0) as usize;
+    let m = cases::number(s, 1) as usize;
+    let others = cases::number(s, 2) as usize;
+    let q = cases::number(s, 3) as usize;
     is_size(
         sizes::compressed_separator_range_size(first, m, others, q),
         s,

@@ -34,7 +34,7 @@ fn is_normal(base: &[u8], p: &[u8]) -> bool
             Chosen::Refused(_) => false,
             Chosen::Taken(c) => {
                 let mut own = [0u8; 4096];
-                let number = words::le_u32(base, 0) as u32;
+                let number = numbers::le_u32(base, 0) as u32;
                 page::write_page(&mut own, number, &t, h.n, c.m, c.q);
                 check::same(&own, p)
             }
@@ -63,7 +63,7 @@ pub fn brings_back(base: &[u8], p: &[u8], rec: &[u8], number: u32) -> bool
 {
     let mut back = [0u8; 4096];
     let mut redo = [0u8; 24704];
-    let own = words::le_u32(base, 0) as u32;
+    let own = numbers::le_u32(base, 0) as u32;
     match build::build(p, rec, own, &mut back, &mut redo) {
         Built::Refused(_) => false,
         Built::Page(w) => {

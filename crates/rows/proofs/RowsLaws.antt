@@ -180,24 +180,6 @@ pub rows-at : (n : ℕ) (t : List ℕ) (i : ℕ) (d : Entry) → i < n → getD 
 unfolding rows
 rows-at n t i d h = getD-each n (rowEntry t) i d h
 
-pub rows-snoc : (n : ℕ) (t : List ℕ) → rows (suc n) t ≡ rows n t ++ (rowEntry t n ∷ [])
-unfolding rows
-rows-snoc n t = each-snoc n (rowEntry t)
-
--- a row from n on leaves n rows alone
-pub rows-kept : (n : ℕ) (t : List ℕ) (i : ℕ) (e : Entry) (s : ℕ) → n ≤ i → rows n (withRow t i e s) ≡ rows n t
-unfolding rows
-rows-kept n t i e s h =
-    each-same n (rowEntry (withRow t i e s)) (rowEntry t) (λ j l. rowEntry-other t i e s j (λ q. omega arith))
-
--- the row behind n rows adds an entry to them
-pub rows-more : (t : List ℕ) (n : ℕ) (e : Entry) (s : ℕ) → IsKey (e .key) → n < length t / 6
-    → rows (suc n) (withRow t n e s) ≡ rows n t ++ (e ∷ [])
-rows-more t n e s y h =
-    rows-snoc n (withRow t n e s)
-    ∙ ap₂ (λ (l : List Entry) (x : Entry). l ++ (x ∷ [])) (rows-kept n t n e s (omega arith))
-    (rowEntry-same t n e s y h)
-
 -- ---- rows stored one behind the other
 
 pub length-withRows : (t : List ℕ) (i : ℕ) (es : List Entry) → length (withRows t i es) ≡ length t

@@ -1,3 +1,2 @@
--- What the contracts of `rows` cite, as definitions. Read in this order.
-pub mod Keys
+-- What the contracts of `rows` cite, as definitions.
 pub mod Rows

@@ -5,9 +5,9 @@ ghost use mathlib.Core.Path.{_≡_};
 ghost use mathlib.Core.List.{_++_};
 ghost use Prim.Native.Nat.{_+_, _≤_};
 ghost use lib.ListN.{drop, getD, length, take};
-ghost use Rattle.rows.specs.Keys.{keyBits};
+ghost use Rattle.keys.specs.Keys.{keyBits};
 ghost use Rattle.rows.specs.Rows.{rowKey, rowPointer, rowSource, rowWords, withRow};
-use crate::key::Key;
+use keys::Key;
 
 // The word at i.
 fn word_at(t: &[u64], i: usize) -> u64

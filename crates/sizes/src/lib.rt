@@ -1,4 +1,4 @@
-// The size formulas, on 64-bit numbers. Only the exact result counts: it is answered, or refused
+// The size formulas, on numbers of 64 bits. Only the exact result counts: it is answered, or refused
 // with 19 where it is below zero or does not fit 64 bits. What they mean: format's
 // specs/Sizes.antt, and `sizeAnswer` of specs/Sizes.antt.
 ghost use mathlib.Core.Path.{_≡_};
@@ -9,21 +9,15 @@ use format::refusal::Refusal;
 
 // What a size formula answers: the size, or 19.
 pub enum Size {
-    Is(u64),
+    Is(usize),
     Refused(Refusal),
 }
 
-const MAX: u64 = 0xffff_ffff_ffff_ffff;
-
-// The lesser of two.
-fn least(a: u64, b: u64) -> u64
-    ensures answer { λ r. ⌜ r ≡ min a b ⌝ }
-{
-    if a < b { a } else { b }
-}
+// The largest number.
+const MAX: usize = 0xffff_ffff_ffff_ffff;
 
 // a * b.
-fn product(a: u64, b: u64) -> Size
+fn product(a: usize, b: usize) -> Size
     ensures answer { λ r. ⌜ sizeAnswer r ≡ difference (a * b) 0 ⌝ }
 {
     if b == 0 {
@@ -36,7 +30,7 @@ fn product(a: u64, b: u64) -> Size
 }
 
 // a + b + c.
-fn total(a: u64, b: u64, c: u64) -> Size
+fn total(a: usize, b: usize, c: usize) -> Size
     ensures answer { λ r. ⌜ sizeAnswer r ≡ difference (a + b + c) 0 ⌝ }
 {
     if MAX - a < b {
@@ -48,19 +42,12 @@ fn total(a: u64, b: u64, c: u64) -> Size
     Size::Is(a + b + c)
 }
 
-// The bytes of a + b bits; the sum itself need not fit.
-fn bytes_for(a: u64, b: u64) -> u64
-    ensures answer { λ r. ⌜ r ≡ (a + b + 7) / 8 ⌝ }
-{
-    a / 8 + b / 8 + (a % 8 + b % 8 + 7) / 8
-}
-
 // Body bytes: six for each of n entries, and the bits of prefix and stored separators rounded up to
 // bytes. Refused with 19 past 64 bits.
-pub fn body_size(prefix_len: u64, total_separator_lengths: u64, n: u64) -> Size
+pub fn body_size(prefix_len: usize, total_separator_lengths: usize, n: usize) -> Size
     ensures answer { λ r. ⌜ sizeAnswer r ≡ bodySize «prefix_len» «total_separator_lengths» n ⌝ }
 {
-    let bytes = bytes_for(prefix_len, total_separator_lengths);
+    let bytes = numbers::bytes_for(prefix_len, total_separator_lengths);
     if MAX / 6 < n {
         return Size::Refused(Refusal::Unrepresentable);
     }
@@ -73,15 +60,15 @@ pub fn body_size(prefix_len: u64, total_separator_lengths: u64, n: u64) -> Size
 // Whole lengths from the stored ones of n entries: each has prefix_len bits more, but the first no
 // more than it has in all. Refused with 19 past 64 bits, and below zero, which takes n = 0.
 pub fn uncompressed_separator_range_size(
-    prefix_len: u64,
-    compressed_lengths: u64,
-    n: u64,
-    first_len: u64,
+    prefix_len: usize,
+    compressed_lengths: usize,
+    n: usize,
+    first_len: usize,
 ) -> Size
     ensures answer { λ r. ⌜ sizeAnswer r
         ≡ wholeFromStored «prefix_len» «compressed_lengths» n «first_len» ⌝ }
 {
-    let kept = least(prefix_len, first_len);
+    let kept = numbers::least(prefix_len, first_len);
     if n == 0 {
         if compressed_lengths < prefix_len - kept {
             return Size::Refused(Refusal::Unrepresentable);
@@ -95,7 +82,7 @@ pub fn uncompressed_separator_range_size(
 }
 
 // head + others, less so many times q.
-fn reduced(head: u64, others: u64, times: u64, q: u64) -> Size
+fn reduced(head: usize, others: usize, times: usize, q: usize) -> Size
     requires { ⌜ (q ≡ 0 → ⊥) × (head + q < 2 ^ 64) ⌝ }
     ensures answer { λ r. ⌜ sizeAnswer r ≡ difference (head + others) (times * q) ⌝ }
 {
@@ -115,10 +102,10 @@ fn reduced(head: u64, others: u64, times: u64, q: u64) -> Size
 // Stored lengths from whole ones: the first loses prefix_len bits, or all it has, and each of the
 // other compressed items prefix_len. Refused with 19 for no items, below zero and past 64 bits.
 pub fn compressed_separator_range_size(
-    first_separator_length: u64,
-    prefix_compressed_items: u64,
-    pre_compression_size_sum: u64,
-    prefix_len: u64,
+    first_separator_length: usize,
+    prefix_compressed_items: usize,
+    pre_compression_size_sum: usize,
+    prefix_len: usize,
 ) -> Size
     ensures answer { λ r. ⌜ sizeAnswer r
         ≡ storedFromWhole «first_separator_length» «prefix_compressed_items»
@@ -127,7 +114,7 @@ pub fn compressed_separator_range_size(
     if prefix_compressed_items == 0 {
         return Size::Refused(Refusal::Unrepresentable);
     }
-    let head = first_separator_length - least(first_separator_length, prefix_len);
+    let head = numbers::over(first_separator_length, prefix_len);
     if prefix_len == 0 {
         return total(head, pre_compression_size_sum, 0);
     }

@@ -38,7 +38,10 @@ fn told(s: sizes::Size) -> Size
     ensures answer { λ r. ⌜ r ≡ sizeTold (sizeAnswer s) ⌝ }
 {
     match s {
-        sizes::Size::Is(value) => Size { refusal: 0, value },
+        sizes::Size::Is(value) => Size {
+            refusal: 0,
+            value: value as u64,
+        },
         sizes::Size::Refused(why) => Size {
             refusal: why.number(),
             value: 0,
@@ -146,7 +149,7 @@ pub extern "C" fn trussember_bit_copy(
         ≡ afterwards (bitCopy (now (dst .entry)) «dst_bit» (now (src .entry)) «src_bit» bits) (λ d. d)
         (now (dst .entry)) ⌝ }
 {
-    number(bit_ops::bitwise_memcpy(dst, dst_bit, src, src_bit, bits))
+    number(bit_copy::bitwise_memcpy(dst, dst_bit, src, src_bit, bits))
 }
 
 // Separator length of a key.
@@ -203,7 +206,7 @@ pub extern "C" fn trussember_reconstruct_key(
 pub extern "C" fn trussember_body_size(q: u64, sum: u64, n: u64) -> Size
     ensures answer { λ r. ⌜ r ≡ sizeTold (bodySize q sum n) ⌝ }
 {
-    told(sizes::body_size(q, sum, n))
+    told(sizes::body_size(q as usize, sum as usize, n as usize))
 }
 
 // Whole lengths from the stored ones of n entries. Refused with 19.
@@ -216,7 +219,12 @@ pub extern "C" fn trussember_uncompressed_separator_range_size(
 ) -> Size
     ensures answer { λ r. ⌜ r ≡ sizeTold (wholeFromStored q sum n first) ⌝ }
 {
-    told(sizes::uncompressed_separator_range_size(q, sum, n, first))
+    told(sizes::uncompressed_separator_range_size(
+        q as usize,
+        sum as usize,
+        n as usize,
+        first as usize,
+    ))
 }
 
 // Stored lengths from whole ones, m of them compressed. Refused with 19.
@@ -229,5 +237,10 @@ pub extern "C" fn trussember_compressed_separator_range_size(
 ) -> Size
     ensures answer { λ r. ⌜ r ≡ sizeTold (storedFromWhole first m others q) ⌝ }
 {
-    told(sizes::compressed_separator_range_size(first, m, others, q))
+    told(sizes::compressed_separator_range_size(
+        first as usize,
+        m as usize,
+        others as usize,
+        q as usize,
+    ))
 }

@@ -4,12 +4,12 @@
 // those edits where both tables' keys rise: `walk-undoEdits` of proofs/WalkLaws.antt.
 use branch_ops::writer::RecordWriter;
 use edits::edit::Edit;
-use rows::key::Key;
+use keys::Key;
 use rows::table;
 ghost use mathlib.Core.Path.{_≡_};
 ghost use lib.ListN.{drop};
 ghost use Prim.Native.Nat.{_+_, _^_, _<_};
-ghost use Rattle.rows.specs.Keys.{keyBits};
+ghost use Rattle.keys.specs.Keys.{keyBits};
 ghost use Rattle.rows.specs.Rows.{rowEntry, rows};
 ghost use Rattle.edits.specs.Record.{editMeant};
 ghost use Rattle.branch_ops.specs.Writer.{recordIn};

@@ -5,7 +5,7 @@ use Prim.Native.Nat.{ℕ}
 use Rattle.format.specs.Answer.{Answer}
 use Rattle.format.specs.Page.{Entry}
 use Rattle.format.specs.Refusals.{refusalNumber}
-use Rattle.rows.specs.Keys.{keyBits}
+use Rattle.keys.specs.Keys.{keyBits}
 use Rattle.view.specs.declared.Seen.{Seen}
 use Rattle.view.specs.declared.Seen.the-variants.{Entry as Read, Refused}
 

@@ -6,9 +6,9 @@ ghost use mathlib.Core.Path.{_≡_};
 ghost use Rattle.format.specs.Page.{readEntry};
 ghost use Rattle.view.specs.Seen.{seenAnswer};
 use format::refusal::Refusal;
+use keys::Key;
 use node::reader;
 use node::reader::EntryRead;
-use rows::key::Key;
 
 // What reading an entry answers: its key and pointer, or one of 1 to 8, or 16.
 pub enum Seen {

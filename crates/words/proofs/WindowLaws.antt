@@ -1,8 +1,9 @@
 -- Laws of windows: some bits of a list with zeros behind them, and the numbers that bytes of a slice spell.
 -- In order: `take` and `drop` of any length; `fill` of parts; the bytes of a slice, 0 past its end; the numbers that
--- they spell, most significant byte first (`Spells`) and least significant first (`unle`); the first bits of a word,
--- and others behind them; a word's bits from some bit on.
--- Not here: words that are stored (`WordsLaws`); those of format's `BitsLaws`.
+-- they spell, most significant byte first (`Spells`); the first bits of a word, and others behind them; a word's bits
+-- from some bit on.
+-- Not here: words that are stored (`WordsLaws`); numbers with the least significant byte first (`LittleLaws` of
+-- `numbers`); those of facts' `BitsLaws`.
 -- Assumes nothing.
 use mathlib.Core.List.{List, [], _∷_, _++_, append-nil}
 use mathlib.Core.Path.{_≡_, refl, sym, ap, ap₂, subst, _∙_}
@@ -165,9 +166,6 @@ bits-past s b i g h e =
     bits-zero 64
     ∙ sym (ap (fill 64) (drop-of-length-le (bitsOf s) {i = b} (omega (arith, length-bitsOf s))) ∙ fill-nil 64)
 
-pub byte-past : (s : List ℕ) (i : ℕ) → length s ≤ i → 0 ≡ getD s i 0
-byte-past s i h = sym (List·getD-eq-default s 0 h)
-
 -- ---- the number that bytes spell, most significant first
 
 -- x is the number of the k bytes from i on
@@ -204,47 +202,6 @@ spells-byte s i b e h = record { small = h; same = ap (bits 8) e ∙ bits-byte i
 pub spells-more : (s : List ℕ) (i k x b : ℕ) → Spells s i k x → b ≡ getD s (i + k) 0 → b < 256
     → Spells s i (k + 1) (x * 256 + b)
 spells-more s i k x b a e h = spells-cat s i k 1 x b a (spells-byte s (i + k) b e h)
-
--- ---- little-endian numbers
-
-unle-empty : (w : ℕ) → unle (take w []) ≡ 0
-unfolding unle
-unle-empty w = ap unle (take-nil w)
-
-unle-step : (w i : ℕ) (s : List ℕ) → unle (take (suc w) (drop i s)) ≡ getD s i 0 + 256 * unle (take w (drop (i + 1) s))
-unfolding unle
-unle-step w i s = go (decLe (suc i) (length s))
-  where
-    go : Dec (suc i ≤ length s) → unle (take (suc w) (drop i s)) ≡ getD s i 0 + 256 * unle (take w (drop (i + 1) s))
-    go (yes h) =
-        ap (λ (l : List ℕ). unle (take (suc w) l)) (drop-cons s i 0 h)
-        ∙ ap (λ (k : ℕ). getD s i 0 + 256 * unle (take w (drop k s))) (sym (add-one i))
-    go (no h) =
-        let k : length s ≤ i = omega arith in
-        let z : unle (take (suc w) (drop i s)) ≡ 0 =
-        ap (λ (l : List ℕ). unle (take (suc w) l)) (drop-of-length-le s k) in
-        let y : unle (take w (drop (i + 1) s)) ≡ 0 =
-        ap (λ (l : List ℕ). unle (take w l)) (drop-of-length-le s {i = i + 1} (omega arith)) ∙ unle-empty w in
-        omega (arith, z, y, byte-past s i k)
-
-unle-none : (l : List ℕ) → unle (take 0 l) ≡ 0
-unfolding unle
-unle-none l = refl
-
-pub unle-two : (s : List ℕ) (i : ℕ) → unle (take 2 (drop i s)) ≡ getD s i 0 + 256 * getD s (i + 1) 0
-unle-two s i = omega (arith, unle-step 1 i s, unle-step 0 (i + 1) s, unle-none (drop ((i + 1) + 1) s))
-
-pub unle-four : (s : List ℕ) (i : ℕ)
-    → unle (take 4 (drop i s)) ≡ unle (take 2 (drop i s)) + 65536 * unle (take 2 (drop (i + 2) s))
-unle-four s i =
-    let e : (i + 1) + 1 ≡ i + 2 = omega arith in
-    omega (
-      arith,
-      unle-two s i,
-      unle-step 3 i s,
-      unle-step 2 (i + 1) s,
-      ap (λ (k : ℕ). unle (take 2 (drop k s))) e,
-    )
 
 -- ---- the first bits of a word
 

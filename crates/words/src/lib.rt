@@ -1,66 +1,12 @@
-// Words of a byte slice: the 64 bits from any bit on, most significant first, and little-endian
-// numbers. Each public function is total: bytes past the end read as zeros, and a word that does
-// not fit is not stored.
-// What they mean: `bits`, `bitsOf`, `fill` and `unle` of format's specs/Bits.antt, and
-// specs/Words.antt.
+// Words of a byte slice: the 64 bits from any bit on, most significant first. Each public function
+// is total: bytes past the end read as zeros, and a word that does not fit is not stored.
+// What they mean: `bits`, `bitsOf` and `fill` of format's specs/Bits.antt, and specs/Words.antt.
 ghost use mathlib.Core.Path.{_≡_};
 ghost use mathlib.Core.List.{_++_};
 ghost use Prim.Native.Nat.{_+_, _-_, _*_, _%_, _^_, _<_, _≤_};
-ghost use lib.ListN.{length, take, drop, getD};
-ghost use Rattle.format.specs.Bits.{bits, bitsOf, fill, pack, unle};
+ghost use lib.ListN.{length, take, drop};
+ghost use Rattle.format.specs.Bits.{bits, bitsOf, fill, pack};
 ghost use Rattle.words.specs.Words.{windowBits, withWord, wordBits};
-
-// a - b, or 0 where that is below zero.
-pub fn over(a: usize, b: usize) -> usize
-    ensures answer { λ r. ⌜ r ≡ a - b ⌝ }
-{
-    if a < b { 0 } else { a - b }
-}
-
-// A byte as a word.
-fn wide(x: u8) -> u64
-    ensures answer { λ r. ⌜ (r ≡ x) × (r < 256) ⌝ }
-{
-    x as u64
-}
-
-// The byte at i.
-pub fn byte_at(s: &[u8], i: usize) -> u64
-    ensures answer { λ r. ⌜ (r ≡ getD (now (s .entry)) i 0) × (r < 256) ⌝ }
-{
-    if i < s.len() { wide(s[i]) } else { 0 }
-}
-
-// The two bytes from i on, least significant first.
-pub fn le_u16(s: &[u8], i: usize) -> usize
-    ensures answer { λ r. ⌜ (r ≡ unle (take 2 (drop i (now (s .entry))))) × (r < 65536) ⌝ }
-{
-    if i < over(s.len(), 1) {
-        return (wide(s[i]) + wide(s[i + 1]) * 0x100) as usize;
-    }
-    byte_at(s, i) as usize
-}
-
-// The four bytes from i on, which are there, least significant first.
-fn le_four(s: &[u8], i: usize) -> u64
-    requires { ⌜ i + 4 ≤ length (now s) ⌝ }
-    ensures answer { λ r. ⌜ (r ≡ unle (take 4 (drop i (now (s .entry))))) × (r < 2 ^ 32) ⌝ }
-{
-    wide(s[i]) + wide(s[i + 1]) * 0x100 + wide(s[i + 2]) * 0x10000 + wide(s[i + 3]) * 0x1000000
-}
-
-// The four bytes from i on, least significant first.
-pub fn le_u32(s: &[u8], i: usize) -> u64
-    ensures answer { λ r. ⌜ (r ≡ unle (take 4 (drop i (now (s .entry))))) × (r < 2 ^ 32) ⌝ }
-{
-    if i < over(s.len(), 3) {
-        return le_four(s, i);
-    }
-    if i < s.len() {
-        return le_u16(s, i) as u64 + le_u16(s, i + 2) as u64 * 0x10000;
-    }
-    0
-}
 
 // The 32 bits of the four bytes from i on, which are there.
 fn four(s: &[u8], i: usize) -> u64
@@ -68,7 +14,10 @@ fn four(s: &[u8], i: usize) -> u64
     ensures answer { λ r. ⌜ (bits 32 r ≡ fill 32 (drop (8 * i) (bitsOf (now (s .entry)))))
         × (r < 2 ^ 32) ⌝ }
 {
-    wide(s[i + 3]) + wide(s[i + 2]) * 0x100 + wide(s[i + 1]) * 0x10000 + wide(s[i]) * 0x1000000
+    numbers::wide(s[i + 3])
+        + numbers::wide(s[i + 2]) * 0x100
+        + numbers::wide(s[i + 1]) * 0x10000
+        + numbers::wide(s[i]) * 0x1000000
 }
 
 // The 64 bits of the eight bytes from i on, which are there.
@@ -87,7 +36,7 @@ fn near_end(s: &[u8], i: usize) -> u64
     let mut x: u64 = 0;
     let mut k: usize = 0;
     while k < 8 {
-        x = x * 0x100 + byte_at(s, i + k);
+        x = x * 0x100 + numbers::byte_at(s, i + k);
         k += 1;
     }
     x
@@ -106,7 +55,7 @@ fn nine(s: &[u8], i: usize, h: usize) -> u64
     requires { ⌜ (i + 8 < length (now s)) × (h < 8) ⌝ }
     ensures answer { λ r. ⌜ bits 64 r ≡ fill 64 (drop (8 * i + h) (bitsOf (now (s .entry)))) ⌝ }
 {
-    shifted(eight(s, i), wide(s[i + 8]), h)
+    shifted(eight(s, i), numbers::wide(s[i + 8]), h)
 }
 
 // The 64 bits from bit h of byte i on, near the end.
@@ -114,7 +63,7 @@ fn nine_near_end(s: &[u8], i: usize, h: usize) -> u64
     requires { ⌜ (i < 2 ^ 63) × (h < 8) ⌝ }
     ensures answer { λ r. ⌜ bits 64 r ≡ fill 64 (drop (8 * i + h) (bitsOf (now (s .entry)))) ⌝ }
 {
-    shifted(near_end(s, i), byte_at(s, i + 8), h)
+    shifted(near_end(s, i), numbers::byte_at(s, i + 8), h)
 }
 
 // The 64 bits from bit h of byte i on, one of the last eight bytes: of those, what is left of h.
@@ -144,7 +93,7 @@ fn at_end(s: &[u8], i: usize, h: usize) -> u64
 pub fn at_place(s: &[u8], i: usize, h: usize) -> u64
     ensures answer { λ r. ⌜ bits 64 r ≡ fill 64 (drop (8 * i + h % 8) (bitsOf (now (s .entry)))) ⌝ }
 {
-    if i < over(s.len(), 8) {
+    if i < numbers::over(s.len(), 8) {
         return nine(s, i, h % 8);
     }
     at_end(s, i, h % 8)
@@ -162,7 +111,7 @@ pub fn at_bit(s: &[u8], start: usize, skip: usize) -> u64
 pub fn word_at(s: &[u8], i: usize) -> u64
     ensures answer { λ r. ⌜ bits 64 r ≡ wordBits (now (s .entry)) i ⌝ }
 {
-    let n = over(s.len(), 7);
+    let n = numbers::over(s.len(), 7);
     if i < n {
         return eight(s, i);
     }
@@ -175,7 +124,7 @@ pub fn window(s: &[u8], start: usize) -> u64
     ensures answer { λ r. ⌜ bits 64 r ≡ windowBits (now (s .entry)) start ⌝ }
 {
     let i = start / 8;
-    if i < over(s.len(), 8) {
+    if i < numbers::over(s.len(), 8) {
         return nine(s, i, start % 8);
     }
     0
@@ -185,7 +134,7 @@ pub fn window(s: &[u8], start: usize) -> u64
 pub fn window_at(s: &[u8], i: usize, h: usize) -> u64
     ensures answer { λ r. ⌜ bits 64 r ≡ windowBits (now (s .entry)) (8 * i + h % 8) ⌝ }
 {
-    if i < over(s.len(), 8) {
+    if i < numbers::over(s.len(), 8) {
         return nine(s, i, h % 8);
     }
     0
@@ -247,7 +196,7 @@ fn store_four(s: &mut [u8], i: usize, x: u64)
 pub fn store(s: &mut [u8], i: usize, x: u64)
     ensures written { λ _. ⌜ now (s .exit) ≡ withWord (now (s .entry)) i x ⌝ }
 {
-    if i < over(s.len(), 7) {
+    if i < numbers::over(s.len(), 7) {
         store_four(s, i, x / 0x100000000);
         store_four(s, i + 4, x);
     }

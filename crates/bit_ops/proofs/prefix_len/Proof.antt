@@ -17,7 +17,7 @@ use lib.Pow.{pow-add, shl-exact, shl-shr}
 use Rattle.format.specs.Bits.{bitsOf}
 use Rattle.format.specs.Key.{sharedBits}
 use Rattle.facts.proofs.BitsLaws.{length-bitsOf}
-use Rattle.bit_ops.proofs.FieldLaws.{getD-bitsOf}
+use Rattle.bit_copy.proofs.FieldLaws.{getD-bitsOf}
 use Rattle.bit_ops.proofs.SharedLaws.{SharedTo, sharedTo-start, sharedTo-all, sharedBits-next, sharedBits-end}
 
 -- ---- a mask of one bit

@@ -14,20 +14,15 @@ use lib.ListN.{length, take, drop, replicate}
 use lib.Seq.{length-take-le, paste}
 use Rattle.format.specs.Bits.{bitsOf, fill, pack}
 use Rattle.format.specs.Answer.{refusalOf, afterwards, first, unless}
-use Rattle.format.specs.Ranges.{inside, bitsCopied, bitCopy, rebuildKey}
+use Rattle.format.specs.Ranges.{inside, bitsCopied, rebuildKey}
 use Rattle.format.specs.declared.refusal.Outcome.{Outcome}
 use Rattle.format.specs.declared.refusal.Outcome.the-variants.{Done, Refused}
 use Rattle.format.specs.declared.refusal.Refusal.the-variants.{RangeOutside, Unrepresentable}
 use Rattle.facts.proofs.BitsLaws.{length-pack}
-use Rattle.bit_ops.specs.Calls.{Copied, Rebuilt}
-use Rattle.bit_ops.proofs.RunLaws.{bitsOf-bitsCopied, end-inside, inside-room, paste-fill, paste-zeros}
-
--- a copy between ranges that lie inside
-copied : (d : List ℕ) (to : ℕ) (s : List ℕ) (from n : ℕ) (r : Outcome) (d′ : List ℕ) → inside (length d) to n ≡ true
-    → inside (length s) from n ≡ true
-    → Copied d to s from n r d′ → d′ ≡ bitsCopied d to s from n
-unfolding bitCopy unless first afterwards
-copied d to s from n r d′ p q c = rw (p, q) at (c .written)
+use Rattle.facts.proofs.RangesLaws.{bitsOf-bitsCopied}
+use Rattle.bit_copy.specs.Calls.{Copied}
+use Rattle.bit_ops.specs.Calls.{Rebuilt}
+use Rattle.bit_copy.proofs.RunLaws.{copied-bytes, end-inside, inside-room, paste-fill, paste-zeros}
 
 module _ (x : List ℕ) (p : ℕ) (y : List ℕ) (at n : ℕ) (out : List ℕ) (f : Bool) (ef : f ≡ inside (length x) 0 p) where
   out-prefix : not f ≡ true → Rebuilt x p y at n out (Refused RangeOutside) out
@@ -71,13 +66,13 @@ module _ (x : List ℕ) (p : ℕ) (y : List ℕ) (at n : ℕ) (out : List ℕ) (
           let front : List ℕ = take p (bitsOf x) in
           let lf : length front ≡ p = length-take-le p (bitsOf x) px in
           let e : k ≡ bitsCopied (replicate 32 0) 0 x 0 p =
-          copied (replicate 32 0) 0 x 0 p r k (end-inside 32 0 p (omega arith)) ix c in
+          copied-bytes (replicate 32 0) 0 x 0 p r k (end-inside 32 0 p (omega arith)) ix c in
           let lk : length k ≡ 32 = ap length e ∙ length-pack 32 (paste (bitsOf (replicate 32 0)) 0 (bitsOf x) p) in
           let bk : bitsOf k ≡ fill 256 front =
-          ap bitsOf e ∙ bitsOf-bitsCopied (replicate 32 0) 0 x 0 p (omega arith) px
+          ap bitsOf e ∙ bitsOf-bitsCopied (replicate 32 0) 0 x 0 p (end-inside 32 0 p (omega arith)) ix
           ∙ paste-zeros 32 (bitsOf x) p (omega arith) px in
           let e′ : k′ ≡ bitsCopied k p y at n =
-          copied k p y at n r′ k′ (end-inside (length k) p n (omega arith)) iy c′ in
+          copied-bytes k p y at n r′ k′ (end-inside (length k) p n (omega arith)) iy c′ in
           let w : paste (bitsOf k) p (drop at (bitsOf y)) n ≡ fill 256 (front ++ take n (drop at (bitsOf y))) =
           ap₂ (λ (b : List ℕ) (j : ℕ). paste b j (drop at (bitsOf y)) n) bk (sym lf)
           ∙ paste-fill 256 front (drop at (bitsOf y)) n (omega arith) ny in

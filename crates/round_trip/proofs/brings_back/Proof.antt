@@ -6,7 +6,7 @@ use Rattle.round_trip.proofs.brings_back.Lts as lts
 use Rattle.build.proofs.build.Reads as build-reads
 use Rattle.round_trip.proofs.brings_again.Reads as brings-again-reads
 use Rattle.round_trip.proofs.is_normal.Reads as is-normal-reads
-use Rattle.words.proofs.le_u32.Reads as le-u32-reads
+use Rattle.numbers.proofs.le_u32.Reads as le-u32-reads
 use mathlib.Core.Bool.{Bool, false, true}
 use mathlib.Core.List.{List}
 use mathlib.Core.Path.{_≡_, sym, ap, subst, _∙_}

@@ -7,7 +7,7 @@ use Rattle.branch_ops.proofs.choice.choose.Reads as choose-reads
 use Rattle.builder.proofs.page.write_page.Reads as write-page-reads
 use Rattle.check.proofs.same.Reads as same-reads
 use Rattle.node.proofs.reader.load_page.Reads as load-page-reads
-use Rattle.words.proofs.le_u32.Reads as le-u32-reads
+use Rattle.numbers.proofs.le_u32.Reads as le-u32-reads
 use mathlib.Core.Bool.{Bool, false, true}
 use mathlib.Core.List.{List}
 use mathlib.Core.Path.{_≡_, sym, ap, subst, _∙_}

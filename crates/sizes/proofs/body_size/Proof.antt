@@ -17,7 +17,7 @@ module _ (q sum n : ℕ) where
   unfolding bodySize bodyBytes
   many h = diff-high (6 * n + bytesFor (q + sum)) 0 (omega arith)
 
-  module _ (b : ℕ) (eb : b ≡ (q + sum + 7) / 8) (l : n ≤ 18446744073709551615 / 6) where
+  module _ (b : ℕ) (eb : b ≡ bytesFor (q + sum)) (l : n ≤ 18446744073709551615 / 6) where
     past : 18446744073709551615 - 6 * n < b → Answer.Refused 19 ≡ bodySize q sum n
     unfolding bodySize bodyBytes bytesFor
     past h = diff-high (6 * n + (q + sum + 7) / 8) 0 (omega arith)

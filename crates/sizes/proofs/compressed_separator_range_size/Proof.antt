@@ -1,7 +1,7 @@
 -- `sizes::compressed_separator_range_size` meets its contract: what is taken off is (m - 1) q.
 -- Assumes nothing.
 use mathlib.Core.Path.{_≡_, sym, ap, _∙_}
-use Prim.Native.Nat.{ℕ, suc, _+_, _-_, _*_, _^_, _<_, min}
+use Prim.Native.Nat.{ℕ, suc, _+_, _-_, _*_, _^_, _<_}
 use native.Mathlib.Omega.{arith}
 use Rattle.format.specs.Answer.{Answer}
 use Rattle.format.specs.Sizes.{difference, storedFromWhole}
@@ -16,38 +16,31 @@ no-items : (first m others q : ℕ) → m ≡ 0 → Answer.Refused 19 ≡ stored
 unfolding storedFromWhole
 no-items first m others q z = sym (ap (λ (x : ℕ). storedFromWhole first x others q) z)
 
-head-fits : (first q l : ℕ) → l ≡ min first q → first < 2 ^ 64 → q < 2 ^ 64 → (first - l) + q < 2 ^ 64
-head-fits first q l el k kq = omega arith
+head-fits : (first q h : ℕ) → h ≡ first - q → first < 2 ^ 64 → q < 2 ^ 64 → h + q < 2 ^ 64
+head-fits first q h eh k kq = omega arith
 
-module _ (first m others q l : ℕ) (el : l ≡ min first q) (some : m ≡ 0 → ⊥) (r : Size) where
+module _ (first m others q h : ℕ) (eh : h ≡ first - q) (some : m ≡ 0 → ⊥) (r : Size) where
   shaped : storedFromWhole first m others q ≡ difference (first - q + others) ((m - 1) * q)
   unfolding storedFromWhole
   shaped =
       let e : m ≡ suc (m - 1) = omega (arith, some) in
       ap (λ (x : ℕ). storedFromWhole first x others q) e
 
-  no-prefix : q ≡ 0 → sizeAnswer r ≡ difference ((first - l) + others + 0) 0
-      → sizeAnswer r ≡ storedFromWhole first m others q
+  no-prefix : q ≡ 0 → sizeAnswer r ≡ difference (h + others + 0) 0 → sizeAnswer r ≡ storedFromWhole first m others q
   no-prefix z e =
       let p : (m - 1) * q ≡ 0 = ap (λ (x : ℕ). (m - 1) * x) z ∙ omega arith in
-      e ∙ diff-same (first - q + others) ((m - 1) * q) ((first - l) + others + 0) (omega arith) ∙ sym shaped
+      e ∙ diff-same (first - q + others) ((m - 1) * q) (h + others + 0) (omega arith) ∙ sym shaped
 
-  less : sizeAnswer r ≡ difference ((first - l) + others) ((m - 1) * q)
-      → sizeAnswer r ≡ storedFromWhole first m others q
-  less e =
-      let h : first - l ≡ first - q = omega arith in
-      e ∙ ap (λ (x : ℕ). difference (x + others) ((m - 1) * q)) h ∙ sym shaped
+  less : sizeAnswer r ≡ difference (h + others) ((m - 1) * q) → sizeAnswer r ≡ storedFromWhole first m others q
+  less e = e ∙ ap (λ (x : ℕ). difference (x + others) ((m - 1) * q)) eh ∙ sym shaped
 
 ruleset laws = (no-items, head-fits, no-prefix, less)
 
 returns : tie.Need-returns
 returns c = search (needs, laws)
 
-least-requires : tie.Need-least-requires
-least-requires c κs = search (needs, laws)
-
-sub-head : tie.Need-sub-head
-sub-head c = search (needs, laws)
+over-requires : tie.Need-over-requires
+over-requires c κs = search (needs, laws)
 
 total-requires : tie.Need-total-requires
 total-requires c κs = search (needs, laws)
@@ -69,8 +62,7 @@ compressed-separator-range-size-spec =
     tie.close
     (tie.spec
     returns
-    least-requires
-    sub-head
+    over-requires
     total-requires
     returns-2
     sub-reduced

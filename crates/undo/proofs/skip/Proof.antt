@@ -9,7 +9,7 @@ use borrow.Author.Needs.{needs}
 use borrow.Author.Tests.{not-true, not-false}
 use lib.ListN.{length, drop, drop-of-length-le}
 use Rattle.format.specs.Key.{below}
-use Rattle.rows.specs.Keys.{keyBits}
+use Rattle.keys.specs.Keys.{keyBits}
 use Rattle.rows.specs.Rows.{rowKey, rowEntry, rows}
 use Rattle.rows.proofs.RowsLaws.{length-rows}
 use Rattle.undo.proofs.skip.Statement.{statement}

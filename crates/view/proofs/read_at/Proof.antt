@@ -13,8 +13,8 @@ use Rattle.format.specs.Refusals.{refusalNumber}
 use Rattle.format.specs.declared.refusal.Refusal.{Refusal}
 use Rattle.facts.proofs.BitsLaws.{bitsOf-pack, fill-exact}
 use Rattle.facts.proofs.PageLaws.{keyOf-key}
-use Rattle.rows.specs.Keys.{keyBits}
-use Rattle.rows.specs.declared.key.Key.{Key}
+use Rattle.keys.specs.Keys.{keyBits}
+use Rattle.keys.specs.declared.Key.{Key}
 use Rattle.node.specs.declared.reader.EntryRead.{EntryRead}
 use Rattle.node.specs.declared.reader.EntryRead.the-variants.{Pointer, Refused}
 use Rattle.node.specs.Reader.{entryAnswer, keyBytes, pointerRead}

@@ -19,8 +19,8 @@ returns-2 c = search (needs, laws)
 key-of-requires : tie.Need-key-of-requires
 key-of-requires c κs = search (needs, laws)
 
-end-offset-requires : tie.Need-end-offset-requires
-end-offset-requires c κs = search (needs, laws)
+cell-requires : tie.Need-cell-requires
+cell-requires c κs = search (needs, laws)
 
 start-offset-requires : tie.Need-start-offset-requires
 start-offset-requires c κs = search (needs, laws)
@@ -66,7 +66,7 @@ is-kept-spec =
     source-of-requires
     returns-2
     key-of-requires
-    end-offset-requires
+    cell-requires
     start-offset-requires
     separator-len-requires
     over-requires

@@ -7,7 +7,7 @@ use native.Mathlib.Omega.{arith}
 use lib.ListN.{length, take, drop}
 use Rattle.format.specs.Bits.{unle}
 use Rattle.format.specs.Page.{endOf}
-use Rattle.words.proofs.WindowLaws.{byte-past, unle-two}
+use Rattle.numbers.proofs.LittleLaws.{byte-past, unle-two}
 use borrow.Author.Needs.{needs}
 use Rattle.node.proofs.reader.cell.Statement.{statement}
 use Rattle.node.proofs.reader.cell.Tie as tie

@@ -5,8 +5,8 @@ use mathlib.Core.Path.{_≡_, ap, _∙_}
 use Prim.Native.Nat.{ℕ}
 use Rattle.format.specs.Bits.{pack}
 use Rattle.format.specs.Page.{keyOf}
-use Rattle.rows.specs.declared.key.Key.{Key}
-use Rattle.rows.specs.Keys.{keyBits}
+use Rattle.keys.specs.declared.Key.{Key}
+use Rattle.keys.specs.Keys.{keyBits}
 use borrow.Author.Needs.{needs}
 use Rattle.node.proofs.reader.copy_entry.Statement.{statement}
 use Rattle.node.proofs.reader.copy_entry.Tie as tie

@@ -10,8 +10,8 @@ use native.Mathlib.Omega.{arith}
 use lib.Dec.{eqb}
 use Rattle.format.specs.Key.{below}
 use Rattle.format.specs.Page.{Entry, count, each, endOf, entries, entryOf, keyOf, pointerOf, startOf}
-use Rattle.rows.specs.declared.key.Key.{Key}
-use Rattle.rows.specs.Keys.{keyBits}
+use Rattle.keys.specs.declared.Key.{Key}
+use Rattle.keys.specs.Keys.{keyBits}
 use Rattle.rows.specs.Rows.{withRow, withRows}
 use Rattle.node.specs.declared.reader.Header.{Header}
 use Rattle.node.specs.Reader.{SizesFit, unordered}

@@ -7,8 +7,8 @@ use lib.ListN.{take, drop}
 use Rattle.format.specs.Bits.{bitsOf, fill}
 use Rattle.format.specs.Page.{body, count, prefixLength}
 use Rattle.words.proofs.WindowLaws.{drop-bitsOf}
-use Rattle.rows.specs.declared.key.Key.{Key}
-use Rattle.rows.specs.Keys.{keyBits}
+use Rattle.keys.specs.declared.Key.{Key}
+use Rattle.keys.specs.Keys.{keyBits}
 use Rattle.node.specs.declared.reader.Header.{Header}
 use Rattle.node.specs.Reader.{SizesFit}
 use borrow.Author.Needs.{needs}

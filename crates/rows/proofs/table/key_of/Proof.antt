@@ -6,10 +6,10 @@ use Prim.Native.Nat.{ℕ, _+_, _*_, _/_, _≤_, _<_}
 use native.Mathlib.Omega.{arith}
 use lib.ListN.{length, getD, replicate}
 use Rattle.format.specs.Bits.{bits}
-use Rattle.rows.specs.declared.key.Key.{Key}
-use Rattle.rows.specs.Keys.{keyBits}
+use Rattle.keys.specs.declared.Key.{Key}
+use Rattle.keys.specs.Keys.{keyBits}
 use Rattle.rows.specs.Rows.{rowKey}
-use Rattle.words.proofs.WindowLaws.{byte-past}
+use Rattle.numbers.proofs.LittleLaws.{byte-past}
 use borrow.Author.Needs.{needs}
 use Rattle.rows.proofs.table.key_of.Statement.{statement}
 use Rattle.rows.proofs.table.key_of.Tie as tie

@@ -6,7 +6,7 @@ use Prim.Native.Nat.{ℕ, _+_, _*_, _/_, _<_}
 use native.Mathlib.Omega.{arith}
 use lib.ListN.{length, getD}
 use Rattle.rows.specs.Rows.{rowPointer}
-use Rattle.words.proofs.WindowLaws.{byte-past}
+use Rattle.numbers.proofs.LittleLaws.{byte-past}
 use borrow.Author.Needs.{needs}
 use Rattle.rows.proofs.table.pointer_of.Statement.{statement}
 use Rattle.rows.proofs.table.pointer_of.Tie as tie

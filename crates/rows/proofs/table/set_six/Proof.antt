@@ -7,10 +7,10 @@ use Prim.Native.Nat.{ℕ, suc, _+_, _*_, _/_, _^_, _≤_, _<_}
 use native.Mathlib.Omega.{arith}
 use lib.ListN.{length, take, drop, set, length-set}
 use lib.Seq.{sets-eq}
-use Rattle.rows.specs.declared.key.Key.{Key}
-use Rattle.rows.specs.Keys.{keyBits}
+use Rattle.keys.specs.declared.Key.{Key}
+use Rattle.keys.specs.Keys.{keyBits}
 use Rattle.rows.specs.Rows.{rowWords}
-use Rattle.rows.proofs.KeysLaws.{word-a, word-b, word-c, word-d}
+use Rattle.keys.proofs.KeysLaws.{word-a, word-b, word-c, word-d}
 use borrow.Author.Needs.{needs}
 use Rattle.rows.proofs.table.set_six.Statement.{statement}
 use Rattle.rows.proofs.table.set_six.Tie as tie

@@ -1,6 +1,6 @@
 -- `rows::table::word_at` meets its contract: past the end `getD` gives its default, 0.
 -- Assumes nothing.
-use Rattle.words.proofs.WindowLaws.{byte-past}
+use Rattle.numbers.proofs.LittleLaws.{byte-past}
 use borrow.Author.Needs.{needs}
 use Rattle.rows.proofs.table.word_at.Statement.{statement}
 use Rattle.rows.proofs.table.word_at.Tie as tie

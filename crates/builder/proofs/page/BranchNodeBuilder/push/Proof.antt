@@ -14,7 +14,7 @@ use Rattle.format.specs.Bits.{bitsOf}
 use Rattle.format.specs.Key.{IsKey, separatorLength}
 use Rattle.parts.specs.Parts.{leftOut, withKey}
 use Rattle.parts.proofs.BitLaws.{bitsOf-withKey}
-use Rattle.rows.proofs.KeysLaws.{isKey-keyBits}
+use Rattle.keys.proofs.KeysLaws.{isKey-keyBits}
 
 -- x bits of k past its first s are laid
 module _ (k : List ℕ) (m q i bit n s x : ℕ) (ex : x ≡ n - s) (en : n ≡ separatorLength k) (es : s ≡ leftOut m q i) where

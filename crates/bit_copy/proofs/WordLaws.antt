@@ -1,0 +1,133 @@
+-- Laws of bits copied a word at a time (`Moved` of specs/Runs.antt; words' `withWord`).
+-- In order: a word stored; bits moved inside eight bytes; a whole word moved.
+-- Assumes nothing.
+use mathlib.Core.Bool.{Bool, cond}
+use mathlib.Core.List.{List, _++_, append-assoc}
+use mathlib.Core.Path.{_≡_, sym, ap, ap₂, _∙_}
+use Prim.Native.Nat.{ℕ, _+_, _-_, _*_, _/_, _%_, _≤_, _<_}
+use native.Mathlib.Omega.{arith}
+use borrow.Author.Tests.{lt-ltb}
+use lib.ListN.{length, take, drop, replicate, length-drop, take-append-drop}
+use lib.Seq.{drop-drop, length-take-le, paste, take-all, take-append-add, take-take}
+use Rattle.format.specs.Bits.{bits, bitsOf, fill}
+use Rattle.facts.proofs.BitsLaws.{bitsOf-append, fill-take, length-bits, length-bitsOf, take-fill}
+use Rattle.words.specs.Words.{wordBytes, withWord, windowBits, wordBits}
+use Rattle.words.proofs.WordsLaws.{withWord-in, bitsOf-wordBytes, wordBits-in}
+use Rattle.bit_copy.specs.Runs.{Moved}
+use Rattle.bit_copy.proofs.FieldLaws.{bitsOf-take, bitsOf-drop, paste-inside}
+
+-- ---- a word stored
+
+module _ (d : List ℕ) (i : ℕ) (h : i + 8 ≤ length d) where
+  P : List ℕ
+  P = bitsOf (take i d)
+
+  Q : List ℕ
+  Q = bitsOf (drop (i + 8) d)
+
+  stored-bits : (y : ℕ) → bitsOf (withWord d i y) ≡ P ++ (bits 64 y ++ Q)
+  unfolding P Q
+  stored-bits y =
+      ap bitsOf (withWord-in d i y h ∙ append-assoc (take i d) (wordBytes y) (drop (i + 8) d))
+      ∙ bitsOf-append (take i d) (wordBytes y ++ drop (i + 8) d)
+      ∙ ap (λ (l : List ℕ). P ++ l) (bitsOf-append (wordBytes y) (drop (i + 8) d)
+      ∙ ap (λ (l : List ℕ). l ++ Q) (bitsOf-wordBytes y))
+
+  -- the eight bytes that stood there
+  old-bits : (x : ℕ) → bits 64 x ≡ fill 64 (drop (8 * i) (bitsOf d)) → bitsOf d ≡ P ++ (bits 64 x ++ Q)
+  unfolding P Q
+  old-bits x ex =
+      let B : List ℕ = bitsOf d in
+      let e : 8 * (i + 8) ≡ 8 * i + 64 = omega arith in
+      let l : 64 ≤ length (drop (8 * i) B) = omega (arith, length-drop (8 * i) B, length-bitsOf d) in
+      let p : P ≡ take (8 * i) B = bitsOf-take i d (omega arith) in
+      let q : Q ≡ drop 64 (drop (8 * i) B) =
+      bitsOf-drop (i + 8) d h ∙ ap (λ (k : ℕ). drop k B) e ∙ sym (drop-drop 64 (8 * i) B) in
+      sym (ap₂ (λ (u v : List ℕ). u ++ v) p
+      (ap₂ _++_ (ex ∙ fill-take 64 (drop (8 * i) B) l) q ∙ take-append-drop 64 (drop (8 * i) B))
+      ∙ take-append-drop (8 * i) B)
+
+  -- bits pasted into them are pasted into all
+  pub word-pasted : (x y j n : ℕ) (s : List ℕ) → bits 64 x ≡ fill 64 (drop (8 * i) (bitsOf d)) → j + n ≤ 64
+      → bits 64 y ≡ paste (bits 64 x) j s n
+      → bitsOf (withWord d i y) ≡ paste (bitsOf d) (8 * i + j) s n
+  unfolding P
+  word-pasted x y j n s ex l ey =
+      let f : length P + j ≡ 8 * i + j = omega (arith, length-bitsOf (take i d), length-take-le i d (omega arith)) in
+      stored-bits y ∙ ap (λ (b : List ℕ). P ++ (b ++ Q)) ey
+      ∙ sym (paste-inside P (bits 64 x) Q s j n (omega (arith, length-bits 64 x)))
+      ∙ ap₂ (λ (b : List ℕ) (m : ℕ). paste b m s n) (sym (old-bits x ex)) f
+
+-- ---- bits moved inside eight bytes
+
+-- n bits of the word v, from bit j of the word x on: first all of v, then x again
+pub joined-paste : (x v w y j n : ℕ) (z : List ℕ) → j + n ≤ 64 → bits 64 v ≡ fill 64 z → n ≤ length z
+    → bits 64 w ≡ take 64 (take j (bits 64 x) ++ bits 64 v)
+    → bits 64 y ≡ take (j + n) (bits 64 w) ++ drop (j + n) (bits 64 x)
+    → bits 64 y ≡ paste (bits 64 x) j z n
+joined-paste x v w y j n z l ev lz ew ey =
+    let X : List ℕ = bits 64 x in
+    let W : List ℕ = bits 64 v in
+    let lj : length (take j X) ≡ j = length-take-le j X (omega (arith, length-bits 64 x)) in
+    let a : j + n ≡ length (take j X) + n = omega arith in
+    let t : take (j + n) (bits 64 w) ≡ take j X ++ take n z =
+    ap (take (j + n)) ew ∙ take-take (j + n) 64 (take j X ++ W) l
+    ∙ ap (λ (k : ℕ). take k (take j X ++ W)) a ∙ take-append-add (take j X) W n
+    ∙ ap (λ (b : List ℕ). take j X ++ b) (ap (take n) ev ∙ take-fill n 64 z (omega arith) ∙ fill-take n z lz) in
+    ey ∙ ap (λ (b : List ℕ). b ++ drop (j + n) X) t
+
+pub moved-in-word : (d s : List ℕ) (i j b g n x v w y : ℕ) (d′ : List ℕ) → j + n ≤ 64 → i + 8 ≤ length d → g < 8
+    → 8 * b + g + n ≤ 8 * length s
+    → bits 64 x ≡ wordBits d i
+    → bits 64 v ≡ fill 64 (drop (8 * b + g % 8) (bitsOf s))
+    → bits 64 w ≡ take 64 (take j (bits 64 x) ++ bits 64 v)
+    → bits 64 y ≡ take (j + n) (bits 64 w) ++ drop (j + n) (bits 64 x)
+    → d′ ≡ withWord d i y
+    → Moved d (8 * i + j) s (8 * b + g) n d′
+moved-in-word d s i j b g n x v w y d′ l h hg hs ex ev ew ey e =
+    let z : List ℕ = drop (8 * b + g) (bitsOf s) in
+    let m : 8 * b + g % 8 ≡ 8 * b + g = omega arith in
+    let lz : n ≤ length z = omega (arith, length-drop (8 * b + g) (bitsOf s), length-bitsOf s) in
+    record {
+      moved =
+          ap bitsOf e ∙ word-pasted d i h x y j n z (ex ∙ wordBits-in d i h) l
+          (joined-paste x v w y j n z l (ev ∙ ap (λ (k : ℕ). fill 64 (drop k (bitsOf s))) m) lz ew ey);
+    }
+
+-- ---- a word moved
+
+pub word-stored : (d : List ℕ) (i x : ℕ) → i + 8 ≤ length d
+    → bitsOf (withWord d i x) ≡ paste (bitsOf d) (8 * i) (bits 64 x) 64
+unfolding P Q
+word-stored d i x h =
+    let B : List ℕ = bitsOf d in
+    let a : 8 * (i + 8) ≡ 8 * i + 64 = omega arith in
+    stored-bits d i h x
+    ∙ ap₂ (λ (p q : List ℕ). p ++ (bits 64 x ++ q)) (bitsOf-take i d (omega arith))
+    (bitsOf-drop (i + 8) d h ∙ ap (λ (n : ℕ). drop n B) a)
+    ∙ sym (append-assoc (take (8 * i) B) (bits 64 x) (drop (8 * i + 64) B))
+    ∙ ap (λ (l : List ℕ). take (8 * i) B ++ l ++ drop (8 * i + 64) B)
+    (sym (take-all 64 (bits 64 x) (omega (arith, length-bits 64 x))))
+
+pub moved-word : (d s : List ℕ) (i b g x : ℕ) (d′ : List ℕ) → i + 8 ≤ length d → g < 8
+    → 8 * b + g + 64 < 8 * length s
+    → bits 64 x ≡ windowBits s (8 * b + g % 8)
+    → d′ ≡ withWord d i x
+    → Moved d (8 * i) s (8 * b + g) 64 d′
+unfolding windowBits
+moved-word d s i b g x d′ h hg hs ex e =
+    let f : ℕ = 8 * b + g in
+    let B : List ℕ = bitsOf d in
+    let z : List ℕ = drop f (bitsOf s) in
+    let m : 8 * b + g % 8 ≡ f = omega arith in
+    let k : f / 8 + 8 < length s = omega arith in
+    let lz : 64 ≤ length z = omega (arith, length-drop f (bitsOf s), length-bitsOf s) in
+    let v : bits 64 x ≡ take 64 z =
+    ex ∙ ap (windowBits s) m
+    ∙ ap (λ (t : Bool). cond t (fill 64 z) (replicate 64 0)) (lt-ltb (f / 8 + 8) (length s) k) ∙ fill-take 64 z lz in
+    record {
+      moved =
+          ap bitsOf e ∙ word-stored d i x h
+          ∙ ap (λ (l : List ℕ). take (8 * i) B ++ l ++ drop (8 * i + 64) B)
+          (take-all 64 (bits 64 x) (omega (arith, length-bits 64 x)) ∙ v);
+    }
