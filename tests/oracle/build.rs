@@ -1,8 +1,6 @@
-// Links libtrussember.a, which `rt staticlib trussember` writes, if it is there: from
-// target/staticlib at the repository's top, or from the folder that TRUSSEMBER_LIB names. Sets
-// `port`, and `port_build` where the library exports trussember_build.
+// Links libtrussember.a, which tools/library writes: from target/staticlib at the repository's top,
+// or from the folder that TRUSSEMBER_LIB names.
 use std::env;
-use std::fs;
 use std::path::PathBuf;
 
 fn main() {
@@ -14,14 +12,11 @@ fn main() {
     };
     let archive = folder.join("libtrussember.a");
     println!("cargo:rerun-if-changed={}", archive.display());
-    let Ok(bytes) = fs::read(&archive) else {
-        return;
-    };
+    if !archive.is_file() {
+        let name = archive.display();
+        eprintln!("oracle: {name} is not there: write it with tools/library");
+        std::process::exit(1);
+    }
     println!("cargo:rustc-link-search=native={}", folder.display());
     println!("cargo:rustc-link-lib=static:+verbatim=libtrussember.a");
-    println!("cargo:rustc-cfg=port");
-    let name = b"trussember_build\0";
-    if bytes.windows(name.len()).any(|w| w == name) {
-        println!("cargo:rustc-cfg=port_build");
-    }
 }

@@ -1,6 +1,7 @@
 //! Times of the port beside the Rust's, in one run.
+use crate::compare::push;
 use crate::generate::{self as gen, Random};
-use crate::naive::{self, Edit, Entry, Key, PAGE};
+use crate::naive::{self, Edit, Entry, Key, PAGE, UNDO};
 use crate::port;
 use std::hint::black_box;
 use std::time::Instant;
@@ -8,11 +9,11 @@ use std::time::Instant;
 const BATCHES: usize = 2000;
 
 // nanoseconds a call: the least of many batches, of about 100 us each
-fn least(mut f: impl FnMut()) -> f64 {
+fn least<T>(mut f: impl FnMut() -> T) -> f64 {
     let start = Instant::now();
     let mut calls = 0;
     while start.elapsed().as_micros() < 300 {
-        f();
+        black_box(f());
         calls += 1;
     }
     let calls = (calls / 3).max(1);
@@ -20,24 +21,24 @@ fn least(mut f: impl FnMut()) -> f64 {
     for _ in 0..BATCHES {
         let start = Instant::now();
         for _ in 0..calls {
-            f();
+            black_box(f());
         }
         best = best.min(start.elapsed().as_nanos() as f64 / calls as f64);
     }
     best
 }
 
-fn row(name: &str, mine: Option<f64>, theirs: Option<f64>) {
-    let shown = |x: Option<f64>| x.map_or("-".to_string(), |x| format!("{x:.0}"));
-    let ratio = match (mine, theirs) {
-        (Some(a), Some(b)) => format!("{:.2}", a / b),
-        _ => "-".to_string(),
-    };
-    println!(
-        "{name:68} {:>9} {:>9} {ratio:>7}",
-        shown(mine),
-        shown(theirs)
-    );
+fn row(name: &str, mine: f64, theirs: Option<f64>) {
+    let none = || "-".to_string();
+    let rust = theirs.map_or_else(none, |x| format!("{x:.0}"));
+    let ratio = theirs.map_or_else(none, |x| format!("{:.2}", mine / x));
+    println!("{name:68} {mine:>9.0} {rust:>9} {ratio:>7}");
+}
+
+// the row of one call of the port and one of the Rust
+fn both<T, U>(name: &str, mine: impl FnMut() -> T, theirs: impl FnMut() -> U) {
+    let mine = least(mine);
+    row(name, mine, nomt::PRESENT.then(|| least(theirs)));
 }
 
 // n ascending keys: of up to 200, 56 or 18 bits for 100, 300 and 500 of them, behind `under` bits
@@ -53,9 +54,7 @@ fn keys(r: &mut Random, n: usize, under: usize) -> Vec<Key> {
         let mut k: Key = r.bytes(32).try_into().unwrap();
         k[..under / 8].fill(0xa5);
         let len = under + r.from_to(most - most / 4, most);
-        for i in len..256 {
-            k[i / 8] &= !(128 >> (i % 8));
-        }
+        gen::cut(&mut k, len);
         all.push(k);
         all.sort();
         all.dedup();
@@ -63,52 +62,36 @@ fn keys(r: &mut Random, n: usize, under: usize) -> Vec<Key> {
     all
 }
 
-fn pushed(page: nomt::Node, all: &[Entry], m: usize, q: usize) -> nomt::Node {
-    let mut b = nomt::Builder::new(page, 7, all.len(), m, q);
-    for e in all {
-        b.push(e.key, nomt::separator_len(&e.key), e.pointer);
-    }
-    b.finish()
-}
-
 // a build: the port's whole one, the Rust's pushes, and where the prefix is kept its chunks
-fn build(name: &str, old: &[Entry], edits: &[Edit]) -> Option<f64> {
+fn build(name: &str, old: &[Entry], edits: &[Edit]) -> f64 {
     let base = naive::normal_page(7, old);
     let record = naive::write_record(edits);
     let new = naive::apply(old, edits);
     let c = naive::choice(&naive::keys_of(&new));
     let wanted = naive::normal_page(7, &new);
-    let (mut page, mut undo) = (vec![0; PAGE], vec![0; 24_688]);
-    let mine = port::BUILDS.then(|| {
-        let t = least(|| {
-            black_box(port::build(
-                black_box(&base),
-                black_box(&record),
-                7,
-                &mut page,
-                &mut undo,
-            ));
-        });
-        assert!(page == wanted, "the port's page");
-        t
+    let (mut page, mut undo) = (vec![0; PAGE], vec![0; UNDO]);
+    let mine = least(|| {
+        let (base, record) = (black_box(&base), black_box(&record));
+        port::build(base, record, 7, &mut page, &mut undo)
     });
-    let theirs = nomt::PRESENT.then(|| {
+    assert!(page == wanted, "the port's page");
+    // the Rust's builder, filled in one way, over a page that it is handed again and again
+    let rust = |fill: &dyn Fn(&mut nomt::Builder)| {
         let mut node = Some(nomt::Node::of(&[0; PAGE]));
         let t = least(|| {
-            node = Some(pushed(node.take().unwrap(), black_box(&new), c.m, c.q));
+            let mut b = nomt::Builder::new(node.take().unwrap(), 7, new.len(), c.m, c.q);
+            fill(&mut b);
+            node = Some(b.finish());
         });
         assert!(node.unwrap().bytes() == wanted, "the Rust's page");
         t
-    });
-    row(
-        &format!("{name}, {} entries: build / pushes", new.len()),
-        mine,
-        theirs,
-    );
+    };
+    let name = format!("{name}, {} entries", new.len());
+    let theirs = nomt::PRESENT.then(|| rust(&|b| push(b, black_box(&new))));
+    row(&format!("{name}: build / pushes"), mine, theirs);
 
-    let old_q = base[8] as usize + 256 * base[9] as usize;
-    let old_m = base[6] as usize + 256 * base[7] as usize;
-    let same = old.len() == new.len() && old.iter().zip(&new).all(|(a, b)| a.key == b.key);
+    let (old_m, old_q) = (naive::le(&base[6..8]), naive::le(&base[8..10]));
+    let same = naive::keys_of(old) == naive::keys_of(&new);
     if nomt::PRESENT && same && old_q == c.q && old_m == c.m {
         // all that is compressed in one chunk, the pointers that differ updated, the rest pushed
         let updated: Vec<(usize, u32)> = (0..c.m)
@@ -116,33 +99,20 @@ fn build(name: &str, old: &[Entry], edits: &[Edit]) -> Option<f64> {
             .map(|i| (i, new[i].pointer))
             .collect();
         let from = nomt::Node::of(&base);
-        let mut node = Some(nomt::Node::of(&[0; PAGE]));
-        let t = least(|| {
-            let mut b = nomt::Builder::new(node.take().unwrap(), 7, new.len(), c.m, c.q);
+        let theirs = rust(&|b| {
             b.push_chunk(black_box(&from), 0, c.m, &updated);
-            for e in &new[c.m..] {
-                b.push(e.key, nomt::separator_len(&e.key), e.pointer);
-            }
-            node = Some(b.finish());
+            push(b, &new[c.m..]);
         });
-        assert!(
-            node.unwrap().bytes() == wanted,
-            "the Rust's page by a chunk"
-        );
         row(
-            &format!("{name}, {} entries: build / one push_chunk", new.len()),
+            &format!("{name}: build / one push_chunk"),
             mine,
-            Some(t),
+            Some(theirs),
         );
     }
     mine
 }
 
 pub fn run() -> bool {
-    if !port::LINKED {
-        println!("libtrussember.a is not there: write it with 'rt staticlib trussember'");
-        return false;
-    }
     println!(
         "Port beside Rust, nanoseconds a call, one core, one run: each figure is the least \
          of {BATCHES} batches of"
@@ -161,28 +131,19 @@ pub fn run() -> bool {
     if !nomt::PRESENT {
         println!("The Rust's texts are not there: its column stays empty.");
     }
-    if !port::BUILDS {
-        println!("The library has no trussember_build: its figures stay empty.");
-    }
     println!();
     println!("{:68} {:>9} {:>9} {:>7}", "", "port", "Rust", "ratio");
     let r = &mut Random::new(3);
 
     // bit copy
-    let (mut d, s) = (vec![0u8; 2048], r.bytes(2048));
+    let (mut d, mut e, s) = ([0; 2048], [0; 2048], r.bytes(2048));
     for bits in [64, 256, 1024, 8192] {
         for (name, to, from) in [("aligned", 0, 0), ("from bit 6 to bit 3", 3, 6)] {
-            let mine = least(|| {
-                black_box(port::bit_copy(&mut d, to, black_box(&s), from, bits));
-            });
             let source = &s[..(from + bits + 63) / 64 * 8];
-            let theirs = nomt::PRESENT.then(|| {
-                least(|| nomt::bitwise_memcpy(black_box(&mut d), to, black_box(source), from, bits))
-            });
-            row(
+            both(
                 &format!("bit copy, {bits} bits, {name}"),
-                Some(mine),
-                theirs,
+                || port::bit_copy(black_box(&mut d), to, black_box(&s), from, bits),
+                || nomt::bitwise_memcpy(black_box(&mut e), to, black_box(source), from, bits),
             );
         }
     }
@@ -195,56 +156,26 @@ pub fn run() -> bool {
     let mut short = a;
     short[9..].fill(0);
     let mut out = [0; 32];
-    let rust = |f: &mut dyn FnMut()| nomt::PRESENT.then(|| least(f));
-    let mine = least(|| {
-        black_box(port::separator_len(black_box(&short)));
-    });
-    row(
+    both(
         "separator length of a key of 72 bits",
-        Some(mine),
-        rust(&mut || {
-            black_box(nomt::separator_len(black_box(&short)));
-        }),
+        || port::separator_len(black_box(&short)),
+        || nomt::separator_len(black_box(&short)),
     );
-    let mine = least(|| {
-        black_box(port::prefix_len(black_box(&low), black_box(&high)));
-    });
-    row(
+    both(
         "shared bits, 100 of them",
-        Some(mine),
-        rust(&mut || {
-            black_box(nomt::prefix_len(black_box(&low), black_box(&high)));
-        }),
+        || port::prefix_len(black_box(&low), black_box(&high)),
+        || nomt::prefix_len(black_box(&low), black_box(&high)),
     );
-    let mine = least(|| {
-        black_box(port::separate(black_box(&low), black_box(&high), &mut out));
-    });
-    row(
+    both(
         "separate, 100 shared bits",
-        Some(mine),
-        rust(&mut || {
-            black_box(nomt::separate(black_box(&low), black_box(&high)));
-        }),
+        || port::separate(black_box(&low), black_box(&high), &mut out),
+        || nomt::separate(black_box(&low), black_box(&high)),
     );
-    let mine = least(|| {
-        black_box(port::reconstruct_key(
-            black_box(&s[..9]),
-            68,
-            black_box(&s[100..116]),
-            3,
-            90,
-            &mut out,
-        ));
-    });
-    row(
+    let (prefix, separator) = (&s[..9], &s[100..116]);
+    both(
         "key rebuilding, 68 bits of prefix and 90 of separator",
-        Some(mine),
-        rust(&mut || {
-            black_box(nomt::reconstruct_key(
-                Some((black_box(&s[..9]), 68)),
-                (black_box(&s[100..116]), 3, 90),
-            ));
-        }),
+        || port::reconstruct_key(black_box(prefix), 68, black_box(separator), 3, 90, &mut out),
+        || nomt::reconstruct_key(Some((black_box(prefix), 68)), (black_box(separator), 3, 90)),
     );
 
     // pages
@@ -267,27 +198,18 @@ pub fn run() -> bool {
     }
     for (n, all, ..) in &sets {
         let page = naive::normal_page(7, all);
-        let mine = least(|| {
-            black_box(port::entry(black_box(&page), n / 2, &mut out));
+        let mine = least(|| port::entry(black_box(&page), n / 2, &mut out));
+        let theirs = nomt::PRESENT.then(|| {
+            let node = nomt::Node::of(&page);
+            least(|| black_box(&node).key(n / 2))
         });
-        let node = nomt::PRESENT.then(|| nomt::Node::of(&page));
-        let theirs = node.as_ref().map(|node| {
-            least(|| {
-                black_box(black_box(node).key(n / 2));
-            })
-        });
-        row(
-            &format!("one key read, page of {n} entries: entry / get_key"),
-            Some(mine),
-            theirs,
-        );
+        let name = format!("one key read, page of {n} entries: entry / get_key");
+        row(&name, mine, theirs);
     }
     for (n, all, ..) in &sets {
         let page = naive::normal_page(7, all);
-        let mine = least(|| {
-            black_box(port::check(black_box(&page)));
-        });
-        row(&format!("check of a page of {n} entries"), Some(mine), None);
+        let mine = least(|| port::check(black_box(&page)));
+        row(&format!("check of a page of {n} entries"), mine, None);
     }
 
     // builds
@@ -338,7 +260,7 @@ pub fn run() -> bool {
             }
             (old, es)
         };
-        let inserts: Vec<Edit> = all.iter().map(|e| Edit::Insert(e.key, e.pointer)).collect();
+        let inserts = naive::inserts(all);
         let (tenth, half) = (spread(10), spread(2));
         for (name, old, es) in [
             ("five updates", all, &few),
@@ -347,13 +269,8 @@ pub fn run() -> bool {
             ("half inserted", &half.0, &half.1),
             ("all inserted over a base", other, &inserts),
         ] {
-            if let Some(t) = build(name, old, es) {
-                times.push((name, n, t));
-            }
+            times.push((name, n, build(name, old, es)));
         }
-    }
-    if times.is_empty() {
-        return true;
     }
     println!();
     println!("Pages a second on one core, whole builds; the aim is 30000.");

@@ -1,7 +1,7 @@
 //! The comparisons: counted by kind, refusals by number, and of the inputs that differ the
 //! smallest.
 use crate::generate::{self as gen, Random};
-use crate::naive::{self, Entry, Key, PAGE};
+use crate::naive::{self, Entry, Key, PAGE, UNDO};
 use crate::vectors::hex;
 use crate::{port, told};
 use std::collections::BTreeMap;
@@ -69,8 +69,8 @@ fn weight(parts: &[&[u8]]) -> usize {
         .sum()
 }
 
-// the Rust's answer; none where it stops the run
-fn quiet<T>(f: impl FnOnce() -> T) -> Option<T> {
+/// What it answers; none where it stops the run.
+pub fn quiet<T>(f: impl FnOnce() -> T) -> Option<T> {
     catch_unwind(AssertUnwindSafe(f)).ok()
 }
 
@@ -86,52 +86,39 @@ fn keys(t: &mut Tally, r: &mut Random, turns: usize) {
         let both = || format!("{} {}", hex(&a), hex(&b));
 
         let len = port::separator_len(&a);
-        t.same(
-            "separator length, naive",
-            len == naive::separator_len(&a) as u64,
-            w,
-            both,
-        );
+        let good = len == naive::separator_len(&a) as u64;
+        t.same("separator length, naive", good, w, both);
         let shared = port::prefix_len(&a, &b);
-        t.same(
-            "shared bits, naive",
-            shared == naive::shared(&a, &b) as u64,
-            w,
-            both,
-        );
+        let good = shared == naive::shared(&a, &b) as u64;
+        t.same("shared bits, naive", good, w, both);
         let was: Key = [r.next() as u8; 32];
         let mut out = was;
         let no = port::separate(&a, &b, &mut out);
         t.refused(no);
-        t.same(
-            "separate, naive",
-            (no, out) == told::written(naive::separate(&a, &b), &was),
-            w,
-            both,
-        );
+        let good = (no, out) == told::written(naive::separate(&a, &b), &was);
+        t.same("separate, naive", good, w, both);
         if nomt::PRESENT {
-            t.same(
-                "separator length, Rust",
-                len == nomt::separator_len(&a) as u64,
-                w,
-                both,
-            );
-            t.same(
-                "shared bits, Rust",
-                shared == nomt::prefix_len(&a, &b) as u64,
-                w,
-                both,
-            );
+            let good = len == nomt::separator_len(&a) as u64;
+            t.same("separator length, Rust", good, w, both);
+            let good = shared == nomt::prefix_len(&a, &b) as u64;
+            t.same("shared bits, Rust", good, w, both);
             if a < b {
-                t.same(
-                    "separate with a < b, Rust",
-                    (no, out) == (0, nomt::separate(&a, &b)),
-                    w,
-                    both,
-                );
+                let good = (no, out) == (0, nomt::separate(&a, &b));
+                t.same("separate with a < b, Rust", good, w, both);
             }
         }
     }
+}
+
+// a source of bits as the Rust wants it: from its first bit's byte on, in whole groups of 64 bits
+fn grouped(r: &mut Random, src: &[u8], from: usize, len: usize) -> Vec<u8> {
+    let fill = r.next() as u8;
+    if len == 0 {
+        return vec![];
+    }
+    let mut source = src[from / 8..].to_vec();
+    source.resize((from % 8 + len + 63) / 64 * 8, fill);
+    source
 }
 
 fn copies(t: &mut Tally, r: &mut Random, turns: usize) {
@@ -178,18 +165,13 @@ fn copies(t: &mut Tally, r: &mut Random, turns: usize) {
 
         // for the Rust: starts cut to 0 to 7, the source as long as it wants it
         if nomt::PRESENT && no == 0 && len != 0 {
-            let mut source = src[from / 8..].to_vec();
-            source.resize((from % 8 + len + 63) / 64 * 8, r.next() as u8);
+            let source = grouped(r, &src, from, len);
             let mut theirs = dst.clone();
             let done = quiet(|| {
                 nomt::bitwise_memcpy(&mut theirs[to / 8..], to % 8, &source, from % 8, len)
             });
-            t.same(
-                "bit copy in the Rust's domain, Rust",
-                done.is_some() && theirs == mine,
-                w,
-                input,
-            );
+            let good = done.is_some() && theirs == mine;
+            t.same("bit copy in the Rust's domain, Rust", good, w, input);
         }
     }
 }
@@ -233,34 +215,14 @@ fn rebuilt(t: &mut Tally, r: &mut Random, turns: usize) {
         let no = port::reconstruct_key(&prefix, p, &sep, start, s, &mut out);
         t.refused(no);
         let said = naive::rebuild(&prefix, p as u64, &sep, start as u64, s as u64);
-        t.same(
-            "key rebuilding, naive",
-            (no, out) == told::written(said, &was),
-            w,
-            input,
-        );
+        let good = (no, out) == told::written(said, &was);
+        t.same("key rebuilding, naive", good, w, input);
         if nomt::PRESENT && no == 0 {
-            let mut source = if s == 0 {
-                vec![]
-            } else {
-                sep[start / 8..].to_vec()
-            };
-            source.resize(
-                if s == 0 {
-                    0
-                } else {
-                    (start % 8 + s + 63) / 64 * 8
-                },
-                r.next() as u8,
-            );
+            let source = grouped(r, &sep, start, s);
             let first = (p != 0).then(|| (&prefix[..(p + 7) / 8], p));
             let theirs = quiet(|| nomt::reconstruct_key(first, (&source, start % 8, s)));
-            t.same(
-                "key rebuilding up to 256 bits, Rust",
-                theirs == Some(out),
-                w,
-                input,
-            );
+            let good = theirs == Some(out);
+            t.same("key rebuilding up to 256 bits, Rust", good, w, input);
         }
     }
 }
@@ -283,20 +245,12 @@ fn sizes(t: &mut Tally, r: &mut Random, turns: usize) {
         let input = || format!("{a} {b} {c} {d}");
         let body = port::body_size(a, b, c);
         t.refused(body.refusal);
-        t.same(
-            "body bytes, naive",
-            body == told::size(naive::body_size(a, b, c)),
-            w,
-            input,
-        );
+        let good = body == told::size(naive::body_size(a, b, c));
+        t.same("body bytes, naive", good, w, input);
         let whole = port::uncompressed_separator_range_size(a, b, c, d);
         t.refused(whole.refusal);
-        t.same(
-            "whole lengths, naive",
-            whole == told::size(naive::whole_from_stored(a, b, c, d)),
-            w,
-            input,
-        );
+        let good = whole == told::size(naive::whole_from_stored(a, b, c, d));
+        t.same("whole lengths, naive", good, w, input);
         // whole lengths of a page's keys are at least the prefix's
         let others = if small {
             c + b.saturating_sub(1) * d
@@ -305,37 +259,23 @@ fn sizes(t: &mut Tally, r: &mut Random, turns: usize) {
         };
         let stored = port::compressed_separator_range_size(a, b, others, d);
         t.refused(stored.refusal);
-        t.same(
-            "stored lengths, naive",
-            stored == told::size(naive::stored_from_whole(a, b, others, d)),
-            w,
-            || format!("{a} {b} {others} {d}"),
-        );
+        let good = stored == told::size(naive::stored_from_whole(a, b, others, d));
+        let input_stored = || format!("{a} {b} {others} {d}");
+        t.same("stored lengths, naive", good, w, input_stored);
         if nomt::PRESENT && small {
-            let [a, b, c, d] = [a, b, c, d].map(|v| v as usize);
-            t.same(
-                "body bytes in a page's range, Rust",
-                body.value == nomt::body_size(a, b, c) as u64,
-                w,
-                input,
-            );
+            let [a, b, c, d, others] = [a, b, c, d, others].map(|v| v as usize);
+            let good = body.value == nomt::body_size(a, b, c) as u64;
+            t.same("body bytes in a page's range, Rust", good, w, input);
             if whole.refusal == 0 {
-                let theirs = nomt::uncompressed_separator_range_size(a, b, c, d) as u64;
-                t.same(
-                    "whole lengths in a page's range, Rust",
-                    whole.value == theirs,
-                    w,
-                    input,
-                );
+                let theirs = nomt::uncompressed_separator_range_size(a, b, c, d);
+                let good = whole.value == theirs as u64;
+                t.same("whole lengths in a page's range, Rust", good, w, input);
             }
             if stored.refusal == 0 {
-                let theirs = nomt::compressed_separator_range_size(a, b, others as usize, d) as u64;
-                t.same(
-                    "stored lengths in a page's range, Rust",
-                    stored.value == theirs,
-                    w,
-                    input,
-                );
+                let theirs = nomt::compressed_separator_range_size(a, b, others, d);
+                let good = stored.value == theirs as u64;
+                let kind = "stored lengths in a page's range, Rust";
+                t.same(kind, good, w, input_stored);
             }
         }
     }
@@ -344,15 +284,10 @@ fn sizes(t: &mut Tally, r: &mut Random, turns: usize) {
 // a page, often damaged: check and entries
 fn page(t: &mut Tally, r: &mut Random, page: &[u8]) {
     let w = weight(&[page]);
-    let input = || hex(page);
     let h = port::check(page);
     t.refused(h.refusal);
-    t.same(
-        "check, naive",
-        h == told::checked(naive::check(page)),
-        w,
-        input,
-    );
+    let good = h == told::checked(naive::check(page));
+    t.same("check, naive", good, w, || hex(page));
     let n = h.n as usize;
     let indexes = [
         0,
@@ -383,23 +318,15 @@ fn page(t: &mut Tally, r: &mut Random, page: &[u8]) {
                 pointer: e.pointer as u32,
             };
             let at = || format!("entry {i} of {}", hex(page));
-            t.same(
-                "entry of an accepted page, naive",
-                e.refusal == 0 && mine == all[i],
-                w,
-                at,
-            );
+            let good = e.refusal == 0 && mine == all[i];
+            t.same("entry of an accepted page, naive", good, w, at);
             if let Some(node) = &node {
                 let theirs = quiet(|| Entry {
                     key: node.key(i),
                     pointer: node.pointer(i),
                 });
-                t.same(
-                    "entry of an accepted page, Rust",
-                    theirs == Some(mine),
-                    w,
-                    at,
-                );
+                let good = theirs == Some(mine);
+                t.same("entry of an accepted page, Rust", good, w, at);
             }
         }
     }
@@ -416,16 +343,6 @@ fn pages(t: &mut Tally, r: &mut Random, turns: usize) {
     }
 }
 
-// the build that is compared: the port's, or where that has none the naive one, held to the Rust
-// alone
-fn build(base: &[u8], record: &[u8], number: u32, page: &mut [u8], undo: &mut [u8]) -> port::Built {
-    if port::BUILDS {
-        port::build(base, record, number, page, undo)
-    } else {
-        told::build(base, record, number, page, undo)
-    }
-}
-
 // a build against the naive one, all lent memory too; the port's answer, page and undo
 fn built(
     t: &mut Tally,
@@ -436,42 +353,41 @@ fn built(
     undo: &[u8],
 ) -> (port::Built, Vec<u8>, Vec<u8>) {
     let (mut p, mut u) = (page.to_vec(), undo.to_vec());
-    let mine = build(base, record, number, &mut p, &mut u);
+    let mine = port::build(base, record, number, &mut p, &mut u);
     t.refused(mine.refusal);
-    if port::BUILDS {
-        let (mut p2, mut u2) = (page.to_vec(), undo.to_vec());
-        let said = told::build(base, record, number, &mut p2, &mut u2);
-        let kind = if said.refusal == 0 {
-            "build, naive"
-        } else {
-            "build refused and memory untouched, naive"
-        };
-        t.same(
-            kind,
-            mine == said && p == p2 && u == u2,
-            weight(&[base, record]),
-            || {
-                format!(
-                "base {} record {} number {number} page of {} bytes, undo of {}: port {mine:?}, \
-                     naive {said:?}",
-                hex(base),
-                hex(record),
-                page.len(),
-                undo.len()
-            )
-            },
-        );
-    }
+    let (mut p2, mut u2) = (page.to_vec(), undo.to_vec());
+    let said = told::built(naive::build(base, record, number, &mut p2, &mut u2));
+    let kind = if said.refusal == 0 {
+        "build, naive"
+    } else {
+        "build refused and memory untouched, naive"
+    };
+    let good = mine == said && p == p2 && u == u2;
+    t.same(kind, good, weight(&[base, record]), || {
+        format!(
+            "base {} record {} number {number} page of {} bytes, undo of {}: port {mine:?}, \
+             naive {said:?}",
+            hex(base),
+            hex(record),
+            page.len(),
+            undo.len()
+        )
+    });
     (mine, p, u)
 }
 
-// the page that the Rust makes by pushes
+/// Entries pushed in the Rust.
+pub fn push(b: &mut nomt::Builder, all: &[Entry]) {
+    for e in all {
+        b.push(e.key, nomt::separator_len(&e.key), e.pointer);
+    }
+}
+
+/// The page that the Rust makes by pushes.
 pub fn pushed(all: &[Entry], number: u32, m: usize, q: usize) -> Option<Vec<u8>> {
     quiet(|| {
         let mut b = nomt::Builder::new(nomt::Node::of(&[0; PAGE]), number, all.len(), m, q);
-        for e in all {
-            b.push(e.key, nomt::separator_len(&e.key), e.pointer);
-        }
+        push(&mut b, all);
         b.finish().bytes().to_vec()
     })
 }
@@ -485,7 +401,7 @@ fn chunked(
     m: usize,
     q: usize,
 ) -> Option<Vec<u8>> {
-    let base_m = base[6] as usize + 256 * base[7] as usize;
+    let base_m = naive::le(&base[6..8]);
     quiet(|| {
         let node = nomt::Node::of(base);
         let mut b = nomt::Builder::new(nomt::Node::of(&[0; PAGE]), number, all.len(), m, q);
@@ -509,7 +425,7 @@ fn chunked(
                 }
             }
             if k == 0 {
-                b.push(all[i].key, nomt::separator_len(&all[i].key), all[i].pointer);
+                push(&mut b, &all[i..=i]);
                 k = 1;
             }
             i += k;
@@ -542,7 +458,7 @@ fn builds(t: &mut Tally, r: &mut Random, turns: usize) {
 
         // refused ones
         let wrong = naive::write_record(&gen::wrong_edits(r, old.len(), &edits));
-        let full = r.bytes(24_688);
+        let full = r.bytes(UNDO);
         built(t, &base, &wrong, number, &page, &full);
         let broken = gen::damaged_record(r, &record);
         built(t, &base, &broken, number, &page, &full);
@@ -564,10 +480,7 @@ fn builds(t: &mut Tally, r: &mut Random, turns: usize) {
             let all = gen::entries(r, &k);
             let good = gen::room_for(&all);
             for count in [good, good + 1, all.len()] {
-                let es: Vec<naive::Edit> = all[..count.min(all.len())]
-                    .iter()
-                    .map(|e| naive::Edit::Insert(e.key, e.pointer))
-                    .collect();
+                let es = naive::inserts(&all[..count.min(all.len())]);
                 let many = naive::write_record(&es);
                 built(t, &base, &many, number, &page, &full);
             }
@@ -592,94 +505,56 @@ fn accepted(
     let input = || format!("base {} record {} number {number}", hex(base), hex(record));
     let (m, q) = (answer.m as usize, answer.q as usize);
     if nomt::PRESENT {
-        let theirs = pushed(new, number, m, q);
-        t.same(
-            "page by pushes, every bit, Rust",
-            theirs.as_deref() == Some(made),
-            w,
-            input,
-        );
+        let good = pushed(new, number, m, q).as_deref() == Some(made);
+        t.same("page by pushes, every bit, Rust", good, w, input);
         let normal = !base.is_empty() && naive::normal_page(le32(base), old) == base;
         if normal && base[8..10] == made[8..10] {
-            let theirs = chunked(base, old, new, number, m, q);
-            t.same(
-                "page by pushes and chunks of equal prefix, Rust",
-                theirs.as_deref() == Some(made),
-                w,
-                input,
-            );
+            let good = chunked(base, old, new, number, m, q).as_deref() == Some(made);
+            let kind = "page by pushes and chunks of equal prefix, Rust";
+            t.same(kind, good, w, input);
         }
     }
     if new.len() <= 6 {
         // no permitted choice has fewer bits
         let keys = naive::keys_of(new);
-        let lens: Vec<usize> = keys.iter().map(naive::separator_len).collect();
+        let lens = naive::lens_of(&keys);
         let shares = naive::shared_of_first(&keys);
         let least = (1..=new.len())
             .flat_map(|m| (0..=shares[m - 1]).map(move |q| (m, q)))
             .map(|(m, q)| naive::choice_bits(&lens, m, q))
             .min();
-        t.same(
-            "fewest bits of all permitted choices",
-            least == Some(answer.bits as usize),
-            w,
-            input,
-        );
+        let good = least == Some(answer.bits as usize);
+        t.same("fewest bits of all permitted choices", good, w, input);
     }
+    let undo = &left[..answer.undo as usize];
     if base.is_empty() {
-        t.same(
-            "undo with no base",
-            left[..answer.undo as usize] == [0, 0],
-            w,
-            input,
-        );
+        t.same("undo with no base", undo == [0, 0], w, input);
         return;
     }
     // back with the undo record under the base's number, and forth again
-    let undo = &left[..answer.undo as usize];
     let was = le32(base);
-    let (page, room) = (r.bytes(PAGE), r.bytes(24_688));
+    let (page, room) = (r.bytes(PAGE), r.bytes(UNDO));
     let (back, page2, left2) = built(t, made, undo, was, &page, &room);
     let good = back.refusal == 0 && page2 == naive::normal_page(was, old);
-    t.same(
-        "demand 3: back is the normal page of the base's entries",
-        good,
-        w,
-        input,
-    );
+    let kind = "demand 3: back is the normal page of the base's entries";
+    t.same(kind, good, w, input);
     if back.refusal != 0 {
         return;
     }
-    let (forth, page3, left3) = built(
-        t,
-        &page2,
-        &left2[..back.undo as usize],
-        number,
-        &page,
-        &room,
-    );
+    let redo = &left2[..back.undo as usize];
+    let (forth, page3, left3) = built(t, &page2, redo, number, &page, &room);
     let good = forth.refusal == 0 && page3 == made && left3[..forth.undo as usize] == *undo;
     t.same("demand 3: forth again is the new page", good, w, input);
 }
 
 fn le32(page: &[u8]) -> u32 {
-    u32::from_le_bytes(page[..4].try_into().unwrap())
+    naive::le(&page[..4]) as u32
 }
 
 /// All comparisons from a seed, `factor` times the usual number; true where nothing differs.
 pub fn run(seed: u64, factor: usize) -> bool {
-    if !port::LINKED {
-        println!("libtrussember.a is not there: write it with 'rt staticlib trussember'");
-        return false;
-    }
     if !nomt::PRESENT {
         println!("the Rust's texts are not there: what is compared with the Rust is skipped");
-    }
-    if !port::BUILDS {
-        println!(
-            "libtrussember.a has no trussember_build: the naive build is held to the Rust in \
-             its place"
-        );
     }
     println!("seed {seed}, factor {factor}");
     let mut t = Tally::default();

@@ -1,9 +1,9 @@
 //! The differences of docs/DIFFERENCES.md, each from its smallest input: what the Rust's text does,
 //! and what the port does beside it.
-use crate::naive::{self, Edit, Entry, Key, PAGE};
+use crate::compare::quiet;
+use crate::naive::{self, Edit, Entry, Key, PAGE, UNDO};
 use crate::port;
 use crate::vectors::hex;
-use std::panic::{catch_unwind, AssertUnwindSafe};
 
 // a key from its first bytes
 fn key(first: &[u8]) -> Key {
@@ -25,8 +25,12 @@ fn entry(key: Key, pointer: u32) -> Entry {
     Entry { key, pointer }
 }
 
+fn inserts(keys: &[Key], pointer: u32) -> Vec<Edit> {
+    keys.iter().map(|k| Edit::Insert(*k, pointer)).collect()
+}
+
 fn panics<T>(f: impl FnOnce() -> T) -> bool {
-    catch_unwind(AssertUnwindSafe(f)).is_err()
+    quiet(f).is_none()
 }
 
 struct List {
@@ -43,20 +47,21 @@ impl List {
     }
 }
 
-// the port's build, or the naive one where the library has none
-fn build(
-    base: &[u8],
-    edits: &[Edit],
-    number: u32,
-    page: &mut [u8],
-    undo: &mut [u8],
-) -> port::Built {
+// the port's build, and its page, which was of such bytes before
+fn build_on(was: u8, base: &[u8], edits: &[Edit]) -> (port::Built, Vec<u8>) {
     let record = naive::write_record(edits);
-    if port::BUILDS {
-        port::build(base, &record, number, page, undo)
-    } else {
-        crate::told::build(base, &record, number, page, undo)
-    }
+    let mut page = vec![was; PAGE];
+    let a = port::build(base, &record, 0, &mut page, &mut [0; UNDO]);
+    (a, page)
+}
+
+fn build(base: &[u8], edits: &[Edit]) -> (port::Built, Vec<u8>) {
+    build_on(0, base, edits)
+}
+
+// the Rust's builder on a zeroed page
+fn builder(n: usize, m: usize, q: usize) -> nomt::Builder {
+    nomt::Builder::new(nomt::Node::of(&[0; PAGE]), 0, n, m, q)
 }
 
 // a page that the Rust makes by pushes
@@ -86,10 +91,8 @@ macro_rules! carried {
 }
 
 fn ends(page: &[u8]) -> Vec<usize> {
-    let n = page[4] as usize + 256 * page[5] as usize;
-    (0..n)
-        .map(|i| page[10 + 2 * i] as usize + 256 * page[11 + 2 * i] as usize)
-        .collect()
+    let n = naive::le(&page[4..6]);
+    page[10..10 + 2 * n].chunks(2).map(naive::le).collect()
 }
 
 fn d1(l: &mut List) {
@@ -110,14 +113,7 @@ fn d2(l: &mut List) {
     let mut b = nomt::Builder::new(nomt::Node::of(&[0xff; PAGE]), 0, 1, 1, 1);
     b.push(key(&[0x80]), 1, 0);
     let theirs = b.finish().bytes()[12..21].to_vec();
-    let mut page = [0xff; PAGE];
-    let a = build(
-        &[],
-        &[Edit::Insert(key(&[0x80]), 7)],
-        0,
-        &mut page,
-        &mut [0; 2],
-    );
+    let (a, page) = build_on(0xff, &[], &[Edit::Insert(key(&[0x80]), 7)]);
     let cleared = page[12] == 0x80 && page[13..PAGE - 4].iter().all(|b| *b == 0);
     let text = format!(
         "on a page of ff, key 80, m 1, q 1: the Rust's bytes 12 to 20 are {}; the \
@@ -135,14 +131,13 @@ fn d3(l: &mut List) {
     let old = [entry(key(&[0x80]), 1), entry(key(&[0x84]), 2)];
     let base = pushed!(nomt, &old, 2, 5);
     let new = [old[0], old[1], entry(key(&[0xa0]), 3)];
-    let mut b = nomt::Builder::new(nomt::Node::of(&[0; PAGE]), 0, 3, 3, 2);
+    let mut b = builder(3, 3, 2);
     b.push_chunk(&base, 0, 2, &[]);
     b.push(new[2].key, 3, 3);
     let theirs = b.finish();
     let alike = (0..3).all(|i| theirs.key(i) == new[i].key);
-    let mut page = [0; PAGE];
     let edits = [Edit::Keep(0, 2), Edit::Insert(new[2].key, 3)];
-    let a = build(base.bytes(), &edits, 0, &mut page, &mut [0; 100]);
+    let (a, page) = build(base.bytes(), &edits);
     let (t, p) = (ends(theirs.bytes()), ends(&page));
     let good = t == [3, 7, 8] && p == [0, 4, 5] && alike && (a.m, a.q) == (3, 2);
     l.say(
@@ -169,9 +164,9 @@ fn d3(l: &mut List) {
     let mut short = key(&[0x7f]);
     short[7] = 2;
     below.push(short);
-    let lens: Vec<usize> = below.iter().map(|k| nomt::separator_len(k)).collect();
+    let lens: Vec<usize> = below.iter().map(nomt::separator_len).collect();
     let body = nomt::body_size(0, lens.iter().sum::<usize>() + 257, 109);
-    let mut b = nomt::Builder::new(nomt::Node::of(&[0; PAGE]), 0, 109, 109, 0);
+    let mut b = builder(109, 109, 0);
     for (k, len) in below.iter().zip(&lens) {
         b.push(*k, *len, 0xffff_ffff);
     }
@@ -180,13 +175,9 @@ fn d3(l: &mut List) {
     let lost: Vec<usize> = (0..107)
         .filter(|i| theirs.pointer(*i) != 0xffff_ffff)
         .collect();
-    let mut page = [0; PAGE];
-    let mut edits: Vec<Edit> = below
-        .iter()
-        .map(|k| Edit::Insert(*k, 0xffff_ffff))
-        .collect();
+    let mut edits = inserts(&below, 0xffff_ffff);
     edits.push(Edit::Keep(0, 2));
-    let a = build(base.bytes(), &edits, 0, &mut page, &mut [0; 100]);
+    let (a, page) = build(base.bytes(), &edits);
     let all = naive::entries_of(&page);
     let kept =
         a.refusal == 0 && all[..107].iter().all(|e| e.pointer == 0xffff_ffff) && all[107..] == old;
@@ -245,9 +236,8 @@ fn d4(l: &mut List) {
     for q in [65, 68, 72, 130, 200] {
         let old = [entry(ones(255), 1), entry(all, 2)];
         let base = naive::page_with(0, &old, 2, q, &[255 - q, 256 - q]);
-        let mut page = [0; PAGE];
         let edits = [Edit::Insert(ones(4), 3), Edit::Keep(0, 2)];
-        let a = build(&base, &edits, 0, &mut page, &mut [0; 100]);
+        let (a, page) = build(&base, &edits);
         good &= a.refusal == 0 && a.q == 4 && naive::entries_of(&page)[1..] == old;
     }
     l.say(
@@ -287,8 +277,7 @@ fn d6(l: &mut List) {
     let stops = panics(|| nomt_checked::tracked(&base, 2, 3));
     let (keys, chunks) = nomt::tracked(&base, 2, 3);
     let named: Vec<String> = keys.iter().map(|k| hex(&k[..1])).collect();
-    let mut page = [0; PAGE];
-    let a = build(&base, &[Edit::Keep(2, 3)], 0, &mut page, &mut [0; 100]);
+    let (a, page) = build(&base, &[Edit::Keep(2, 3)]);
     let good = stops
         && keys == [old[1].key, old[2].key]
         && chunks == [(2, 1)]
@@ -315,14 +304,7 @@ fn d7(l: &mut List) {
     let theirs = carried!(nomt, base, 1, 64, 0);
     let mut wrong = b;
     wrong[15] = 0x80;
-    let mut page = [0; PAGE];
-    let x = build(
-        base.bytes(),
-        &[Edit::Keep(0, 2)],
-        0,
-        &mut page,
-        &mut [0; 100],
-    );
+    let (x, page) = build(base.bytes(), &[Edit::Keep(0, 2)]);
     let good = theirs == wrong && x.refusal == 0 && x.q == 64 && naive::entries_of(&page) == old;
     l.say(
         "D7",
@@ -350,7 +332,7 @@ fn d8(l: &mut List) {
     keys.push(under(135, 26));
     let last = key(&[0xff, 0xff, 0xff, 0xff, 0xff, 0xff, 0xff, 0xff, 0x80]);
     let base = pushed!(nomt, &[entry(last, 5)], 1, 0);
-    let mut b = nomt::Builder::new(nomt::Node::of(&[0; PAGE]), 0, 137, 137, 64);
+    let mut b = builder(137, 137, 64);
     let mut sum = 1;
     for k in &keys {
         let len = nomt::separator_len(k);
@@ -362,10 +344,9 @@ fn d8(l: &mut List) {
     let theirs = b.finish();
     let at = PAGE - 4 * 137;
     let zeros = theirs.bytes()[at..].iter().take_while(|b| **b == 0).count();
-    let mut page = [0; PAGE];
-    let mut edits: Vec<Edit> = keys.iter().map(|k| Edit::Insert(*k, 0xffff_ffff)).collect();
+    let mut edits = inserts(&keys, 0xffff_ffff);
     edits.push(Edit::Keep(0, 1));
-    let a = build(base.bytes(), &edits, 0, &mut page, &mut [0; 100]);
+    let (a, page) = build(base.bytes(), &edits);
     let kept = a.refusal == 0 && page[at..PAGE - 4].iter().all(|b| *b == 0xff);
     l.say(
         "D8",
@@ -402,22 +383,13 @@ fn d9(l: &mut List) {
     for n in [591, 592] {
         let mut keys = cheap[..n].to_vec();
         keys.sort();
-        let edits: Vec<Edit> = keys.iter().map(|k| Edit::Insert(*k, 1)).collect();
-        let mut page = vec![0; PAGE];
-        answers.push(build(&[], &edits, 0, &mut page, &mut [0; 2]).refusal);
+        let (a, page) = build(&[], &inserts(&keys, 1));
+        answers.push(a.refusal);
         if n == 591 {
             base = page;
         }
     }
-    let mut undo = vec![0; 24_688];
-    let mut page = [0; PAGE];
-    let a = build(
-        &base,
-        &[Edit::Insert([0xff; 32], 1)],
-        0,
-        &mut page,
-        &mut undo,
-    );
+    let (a, _) = build(&base, &[Edit::Insert([0xff; 32], 1)]);
     let good = answers == [0, 14] && a.undo == 21_425;
     l.say(
         "D9",
@@ -496,9 +468,6 @@ pub fn run() -> bool {
     if !nomt::PRESENT {
         println!("the Rust's texts are not there: the known differences are not shown");
         return true;
-    }
-    if !port::BUILDS {
-        println!("libtrussember.a has no trussember_build: the naive build stands in its place");
     }
     let mut l = List { good: true };
     for f in [d1, d2, d3, d4, d5, d6, d7, d8, d9, d10, copy] {

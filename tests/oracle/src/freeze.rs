@@ -3,7 +3,7 @@
 //! q, the undo record of no base) is document 01's.
 use crate::compare::pushed;
 use crate::generate::{self as gen, Random};
-use crate::naive::{self, Edit, Entry, Key, PAGE};
+use crate::naive::{self, Entry, Key, PAGE};
 
 const SEED: u64 = 20261115;
 
@@ -35,29 +35,28 @@ impl Cases {
     }
 }
 
-fn number(x: u64) -> [u8; 8] {
-    x.to_le_bytes()
+fn le(x: usize) -> [u8; 8] {
+    (x as u64).to_le_bytes()
 }
 
 fn keys(c: &mut Cases, r: &mut Random) {
-    let none = number(0);
     for _ in 0..40 {
         let a = gen::key(r);
         let b = gen::key_near(r, &a);
-        c.add(1, &[&a, &number(nomt::separator_len(&a) as u64)]);
-        c.add(2, &[&a, &b, &number(shared(&a, &b))]);
+        c.add(1, &[&a, &le(nomt::separator_len(&a))]);
+        c.add(2, &[&a, &b, &le(shared(&a, &b))]);
         if a < b {
-            c.add(3, &[&a, &b, &[7; 32], &none, &nomt::separate(&a, &b)]);
+            c.add(3, &[&a, &b, &[7; 32], &le(0), &nomt::separate(&a, &b)]);
         }
     }
 }
 
 // the Rust's shared bits; it does not end on equal keys
-fn shared(a: &Key, b: &Key) -> u64 {
+fn shared(a: &Key, b: &Key) -> usize {
     if a == b {
         return 256;
     }
-    nomt::prefix_len(a, b) as u64
+    nomt::prefix_len(a, b)
 }
 
 fn copies(c: &mut Cases, r: &mut Random) {
@@ -68,8 +67,10 @@ fn copies(c: &mut Cases, r: &mut Random) {
         let dst = r.bytes((to + len + 7) / 8 + more);
         let mut left = dst.clone();
         nomt::bitwise_memcpy(&mut left, to, &src, from, len);
-        let n = |x: usize| number(x as u64);
-        c.add(4, &[&dst, &n(to), &src, &n(from), &n(len), &n(0), &left]);
+        c.add(
+            4,
+            &[&dst, &le(to), &src, &le(from), &le(len), &le(0), &left],
+        );
     }
 }
 
@@ -81,17 +82,16 @@ fn rebuilt(c: &mut Cases, r: &mut Random) {
         let sep = r.bytes((start + s + 63) / 64 * 8);
         let first = (p != 0).then_some((&prefix[..], p));
         let key = nomt::reconstruct_key(first, (&sep, start, s));
-        let n = |x: usize| number(x as u64);
         c.add(
             5,
             &[
                 &prefix,
-                &n(p),
+                &le(p),
                 &sep,
-                &n(start),
-                &n(s),
+                &le(start),
+                &le(s),
                 &[7; 32],
-                &n(0),
+                &le(0),
                 &key,
             ],
         );
@@ -106,17 +106,20 @@ fn sizes(c: &mut Cases, r: &mut Random) {
             1 + r.below(681),
             r.below(257),
         ];
-        let x = |v: usize| number(v as u64);
-        c.add(
-            6,
-            &[&x(q), &x(sum), &x(n), &x(0), &x(nomt::body_size(q, sum, n))],
-        );
+        let body = nomt::body_size(q, sum, n);
+        c.add(6, &[&le(q), &le(sum), &le(n), &le(0), &le(body)]);
         let whole = nomt::uncompressed_separator_range_size(q, sum, n, first);
-        c.add(7, &[&x(q), &x(sum), &x(n), &x(first), &x(0), &x(whole)]);
+        c.add(
+            7,
+            &[&le(q), &le(sum), &le(n), &le(first), &le(0), &le(whole)],
+        );
         // the other keys are longer than the prefix
         let others = sum + (n - 1) * q;
         let stored = nomt::compressed_separator_range_size(first, n, others, q);
-        c.add(8, &[&x(first), &x(n), &x(others), &x(q), &x(0), &x(stored)]);
+        c.add(
+            8,
+            &[&le(first), &le(n), &le(others), &le(q), &le(0), &le(stored)],
+        );
     }
 }
 
@@ -140,21 +143,20 @@ fn pages(c: &mut Cases, r: &mut Random) {
         let (all, of, choice, bytes) = page(r, 120);
         let i = r.below(all.len());
         let node = nomt::Node::of(&bytes);
-        let x = |v: usize| number(v as u64);
         c.add(
             9,
             &[
                 &bytes,
-                &x(0),
-                &number(of as u64),
-                &x(all.len()),
-                &x(choice.m),
-                &x(choice.q),
-                &x(choice.bits),
-                &x(i),
+                &le(0),
+                &le(of as usize),
+                &le(all.len()),
+                &le(choice.m),
+                &le(choice.q),
+                &le(choice.bits),
+                &le(i),
                 &[7; 32],
-                &x(0),
-                &number(node.pointer(i) as u64),
+                &le(0),
+                &le(node.pointer(i) as usize),
                 &node.key(i),
             ],
         );
@@ -164,24 +166,22 @@ fn pages(c: &mut Cases, r: &mut Random) {
 fn builds(c: &mut Cases, r: &mut Random) {
     for _ in 0..24 {
         let (all, of, choice, bytes) = page(r, 120);
-        let edits: Vec<Edit> = all.iter().map(|e| Edit::Insert(e.key, e.pointer)).collect();
-        let record = naive::write_record(&edits);
-        let x = |v: usize| number(v as u64);
+        let record = naive::write_record(&naive::inserts(&all));
         c.add(
             10,
             &[
                 &[],
                 &record,
-                &number(of as u64),
-                &x(PAGE),
-                &x(0xA5),
+                &le(of as usize),
+                &le(PAGE),
+                &le(0xA5),
                 &[9; 8],
-                &x(0),
-                &x(all.len()),
-                &x(choice.m),
-                &x(choice.q),
-                &x(choice.bits),
-                &x(2),
+                &le(0),
+                &le(all.len()),
+                &le(choice.m),
+                &le(choice.q),
+                &le(choice.bits),
+                &le(2),
                 &bytes,
                 &[0, 0, 9, 9, 9, 9, 9, 9],
             ],

@@ -60,9 +60,18 @@ impl Random {
 
 // ---- keys
 
-fn cut(key: &mut Key, len: usize) {
+/// Zero bits from `len` on.
+pub fn cut(key: &mut Key, len: usize) {
     for i in len..256 {
         key[i / 8] &= !(128 >> (i % 8));
+    }
+}
+
+// the first bits of another key
+fn share(key: &mut Key, other: &Key, bits: usize) {
+    for i in 0..bits {
+        let mask = 128 >> (i % 8);
+        key[i / 8] = key[i / 8] & !mask | other[i / 8] & mask;
     }
 }
 
@@ -71,10 +80,7 @@ pub fn key(r: &mut Random) -> Key {
     match r.below(8) {
         0 => {}
         1 => k = [0; 32],
-        2 | 3 => {
-            let len = r.below(257);
-            cut(&mut k, len)
-        }
+        2 | 3 => cut(&mut k, r.below(257)),
         4 => {
             k = [0; 32];
             let i = r.below(256);
@@ -82,17 +88,13 @@ pub fn key(r: &mut Random) -> Key {
         }
         5 => {
             k = [255; 32];
-            let len = r.below(257);
-            cut(&mut k, len)
+            cut(&mut k, r.below(257))
         }
         6 => {
             k = [0; 32];
             k[31] = r.next() as u8;
         }
-        _ => {
-            let len = r.below(20);
-            cut(&mut k, len)
-        }
+        _ => cut(&mut k, r.below(20)),
     }
     k
 }
@@ -100,11 +102,7 @@ pub fn key(r: &mut Random) -> Key {
 /// A key that shares bits with another, often many.
 pub fn key_near(r: &mut Random, k: &Key) -> Key {
     let mut near = key(r);
-    let shared = r.below(257);
-    for i in 0..shared {
-        let mask = 128 >> (i % 8);
-        near[i / 8] = near[i / 8] & !mask | k[i / 8] & mask;
-    }
+    share(&mut near, k, r.below(257));
     near
 }
 
@@ -119,10 +117,7 @@ pub fn keys(r: &mut Random, n: usize) -> Vec<Key> {
             let mut k: Key = r.bytes(32).try_into().unwrap();
             let mut from = 0;
             if r.below(100) < under {
-                for i in 0..shared {
-                    let mask = 128 >> (i % 8);
-                    k[i / 8] = k[i / 8] & !mask | prefix[i / 8] & mask;
-                }
+                share(&mut k, &prefix, shared);
                 from = shared;
             }
             let len = if r.once_in(3) {
@@ -199,7 +194,7 @@ pub fn page_of(r: &mut Random, all: &[Entry]) -> Vec<u8> {
     }
     let keys = naive::keys_of(all);
     let shares = naive::shared_of_first(&keys);
-    let lens: Vec<usize> = keys.iter().map(naive::separator_len).collect();
+    let lens = naive::lens_of(&keys);
     let mut c = naive::choice(&keys);
     if r.once_in(2) {
         let m = r.from_to(1, all.len());
@@ -213,15 +208,7 @@ pub fn page_of(r: &mut Random, all: &[Entry]) -> Vec<u8> {
             c = naive::Choice { m, q, bits };
         }
     }
-    let mut stored: Vec<usize> = (0..all.len())
-        .map(|i| {
-            if i < c.m {
-                lens[i].saturating_sub(c.q)
-            } else {
-                lens[i]
-            }
-        })
-        .collect();
+    let mut stored: Vec<usize> = naive::stored(&lens, c.m, c.q).collect();
     // zero bits at the ends, to the brim at times
     let mut room = 8 * (BODY - 6 * all.len()) - c.bits;
     let turns = if r.once_in(3) {
@@ -248,38 +235,40 @@ pub fn page_of(r: &mut Random, all: &[Entry]) -> Vec<u8> {
     page
 }
 
+fn flip(bytes: &mut [u8], at: usize) {
+    bytes[at / 8] ^= 128 >> (at % 8);
+}
+
+fn put16(bytes: &mut [u8], at: usize, x: u16) {
+    bytes[at..at + 2].copy_from_slice(&x.to_le_bytes());
+}
+
+// a number of two bytes becomes greater by `more`
+fn add16(bytes: &mut [u8], at: usize, more: u16) {
+    let x = naive::le(&bytes[at..at + 2]) as u16;
+    put16(bytes, at, x.wrapping_add(more));
+}
+
 /// The same, damaged in a few places; at times only a little.
 pub fn damaged(r: &mut Random, page: &[u8]) -> Vec<u8> {
     let mut p = page.to_vec();
-    let n = (p[4] as usize + 256 * p[5] as usize).max(1);
+    let n = naive::le(&p[4..6]).max(1);
     for _ in 0..r.from_to(1, 3) {
         if p.len() < PAGE {
             break;
         }
         match r.below(10) {
-            0 => {
-                let at = r.below(80);
-                p[at / 8] ^= 128 >> (at % 8);
-            }
-            1 => {
-                let at = r.below(16 * n.min(2000));
-                p[10 + at / 8] ^= 128 >> (at % 8);
-            }
-            2 => {
-                let at = r.below(8 * PAGE);
-                p[at / 8] ^= 128 >> (at % 8);
-            }
+            0 => flip(&mut p, r.below(80)),
+            1 => flip(&mut p[10..], r.below(16 * n.min(2000))),
+            2 => flip(&mut p, r.below(8 * PAGE)),
             3 => {
                 let at = r.pick(&[4, 6, 8]);
                 let x = r.pick(&[0, 1, 2, 255, 256, 257, 591, 592, 680, 681, 682, 1023, 65535]);
-                p[at] = x as u8;
-                p[at + 1] = (x >> 8) as u8;
+                put16(&mut p, at, x);
             }
             4 => {
-                let i = 10 + 2 * r.below(n.min(1000));
-                let x: usize = r.pick(&[0, 1, 255, 256, 257, 32687, 65535]);
-                p[i] = x as u8;
-                p[i + 1] = (x >> 8) as u8;
+                let at = 10 + 2 * r.below(n.min(1000));
+                put16(&mut p, at, r.pick(&[0, 1, 255, 256, 257, 32687, 65535]));
             }
             5 => {
                 let (i, j) = (10 + 2 * r.below(n.min(1000)), 10 + 2 * r.below(n.min(1000)));
@@ -293,16 +282,13 @@ pub fn damaged(r: &mut Random, page: &[u8]) -> Vec<u8> {
             }
             7 => {
                 // one off in a header number or an offset
-                let i = 4 + 2 * r.below(3 + n.min(1000));
-                let x = (p[i] as u16 | (p[i + 1] as u16) << 8).wrapping_add(r.pick(&[1, 0xffff]));
-                p[i] = x as u8;
-                p[i + 1] = (x >> 8) as u8;
+                let at = 4 + 2 * r.below(3 + n.min(1000));
+                add16(&mut p, at, r.pick(&[1, 0xffff]));
             }
             8 => {
                 // one bit more or less at the body's end
-                let i = if r.once_in(3) { 8 } else { 8 + 2 * n.min(1000) };
-                let x = u16::from_le_bytes([p[i], p[i + 1]]).wrapping_add(r.pick(&[1, 1, 0xffff]));
-                p[i..i + 2].copy_from_slice(&x.to_le_bytes());
+                let at = if r.once_in(3) { 8 } else { 8 + 2 * n.min(1000) };
+                add16(&mut p, at, r.pick(&[1, 1, 0xffff]));
             }
             _ => {
                 if r.once_in(3) {
@@ -345,8 +331,7 @@ pub fn edits(r: &mut Random, base: &[Entry]) -> Vec<Edit> {
     let mut out = vec![];
     if base.is_empty() {
         let most = count(r);
-        let all = fitting(r, most);
-        return all.iter().map(|e| Edit::Insert(e.key, e.pointer)).collect();
+        return naive::inserts(&fitting(r, most));
     }
     let (keep, update, drop, insert) = r.pick(&[
         (90, 5, 3, 2),
@@ -414,35 +399,14 @@ pub fn wrong_edits(r: &mut Random, n: usize, good: &[Edit]) -> Vec<Edit> {
             .min(1023)
     };
     match r.below(8) {
-        0 => {
-            let p = place(r);
-            es.insert(at, Edit::Update(p, 5));
-        }
-        1 => {
-            let (a, b) = (place(r), place(r));
-            es.insert(at, Edit::Keep(a, b));
-        }
-        2 => {
-            let other = r.below(es.len());
-            es.swap(at, other);
-        }
-        3 => {
-            let e = es[at];
-            es.insert(at, e);
-        }
-        4 => {
-            let k = key(r);
-            es.insert(at, Edit::Insert(k, 9));
-        }
+        0 => es.insert(at, Edit::Update(place(r), 5)),
+        1 => es.insert(at, Edit::Keep(place(r), place(r))),
+        2 => es.swap(at, r.below(good.len())),
+        3 => es.insert(at, es[at]),
+        4 => es.insert(at, Edit::Insert(key(r), 9)),
         5 => es.clear(),
-        6 => {
-            let p = place(r);
-            es[at] = Edit::Update(p, 6);
-        }
-        _ => {
-            let k = key(r);
-            es.push(Edit::Insert(k, 3));
-        }
+        6 => es[at] = Edit::Update(place(r), 6),
+        _ => es.push(Edit::Insert(key(r), 3)),
     }
     es.truncate(1023);
     es
@@ -452,18 +416,9 @@ pub fn wrong_edits(r: &mut Random, n: usize, good: &[Edit]) -> Vec<Edit> {
 pub fn damaged_record(r: &mut Random, record: &[u8]) -> Vec<u8> {
     let mut x = record.to_vec();
     match r.below(8) {
-        0 => {
-            let at = r.below(10);
-            x[at / 8] ^= 128 >> (at % 8);
-        }
-        1 => {
-            let at = r.below(8 * x.len());
-            x[at / 8] ^= 128 >> (at % 8);
-        }
-        2 => {
-            let len = r.below(x.len());
-            x.truncate(len);
-        }
+        0 => flip(&mut x, r.below(10)),
+        1 => flip(&mut x, r.below(8 * record.len())),
+        2 => x.truncate(r.below(record.len())),
         3 => {
             x.pop();
         }

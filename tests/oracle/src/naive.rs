@@ -6,6 +6,8 @@ pub type Bits = Vec<bool>;
 
 pub const PAGE: usize = 4096;
 pub const BODY: usize = 4086;
+/// A length that no undo record exceeds.
+pub const UNDO: usize = 24_688;
 
 #[derive(Clone, Copy, Debug, PartialEq)]
 pub struct Entry {
@@ -188,7 +190,8 @@ pub fn stored_from_whole(first: u64, m: u64, others: u64, q: u64) -> Result<u64,
 
 // ---- the page
 
-fn le(bytes: &[u8]) -> usize {
+/// A number of few bytes, the lowest first.
+pub fn le(bytes: &[u8]) -> usize {
     bytes.iter().rev().fold(0, |n, b| 256 * n + *b as usize)
 }
 
@@ -283,21 +286,16 @@ pub fn entry(page: &[u8], index: u64) -> Result<Entry, u64> {
 
 // ---- the normal page
 
-fn stored_len(len: usize, i: usize, m: usize, q: usize) -> usize {
-    if i < m {
-        len.saturating_sub(q)
-    } else {
-        len
-    }
+/// Stored lengths of a choice, from the separator lengths.
+pub fn stored(lens: &[usize], m: usize, q: usize) -> impl Iterator<Item = usize> + '_ {
+    let skipped = move |i| if i < m { q } else { 0 };
+    let all = lens.iter().enumerate();
+    all.map(move |(i, len)| len.saturating_sub(skipped(i)))
 }
 
 /// Bits of a choice, from the separator lengths.
 pub fn choice_bits(lens: &[usize], m: usize, q: usize) -> usize {
-    let stored = lens
-        .iter()
-        .enumerate()
-        .map(|(i, len)| stored_len(*len, i, m, q));
-    q + stored.sum::<usize>()
+    q + stored(lens, m, q).sum::<usize>()
 }
 
 /// The shared bits of the first m keys, for m from 1 on; 256 for one.
@@ -310,7 +308,7 @@ pub fn shared_of_first(keys: &[Key]) -> Vec<usize> {
 }
 
 pub fn choice(keys: &[Key]) -> Choice {
-    let lens: Vec<usize> = keys.iter().map(separator_len).collect();
+    let lens = lens_of(keys);
     let shares = shared_of_first(keys);
     let mut best = Choice {
         m: 1,
@@ -333,6 +331,11 @@ pub fn body_bytes(n: usize, bits: usize) -> usize {
 
 pub fn keys_of(entries: &[Entry]) -> Vec<Key> {
     entries.iter().map(|e| e.key).collect()
+}
+
+/// The separator lengths.
+pub fn lens_of(keys: &[Key]) -> Vec<usize> {
+    keys.iter().map(separator_len).collect()
 }
 
 /// A page with m and q; stored lengths as they are given.
@@ -360,12 +363,9 @@ pub fn page_with(number: u32, entries: &[Entry], m: usize, q: usize, lens: &[usi
 }
 
 pub fn normal_page(number: u32, entries: &[Entry]) -> Vec<u8> {
-    let c = choice(&keys_of(entries));
-    let lens: Vec<usize> = entries
-        .iter()
-        .enumerate()
-        .map(|(i, e)| stored_len(separator_len(&e.key), i, c.m, c.q))
-        .collect();
+    let keys = keys_of(entries);
+    let c = choice(&keys);
+    let lens: Vec<usize> = stored(&lens_of(&keys), c.m, c.q).collect();
     page_with(number, entries, c.m, c.q, &lens)
 }
 
@@ -423,6 +423,13 @@ pub fn write_record(edits: &[Edit]) -> Vec<u8> {
         }
     }
     bytes_of(&bits)
+}
+
+pub fn inserts(entries: &[Entry]) -> Vec<Edit> {
+    entries
+        .iter()
+        .map(|e| Edit::Insert(e.key, e.pointer))
+        .collect()
 }
 
 pub fn apply(base: &[Entry], edits: &[Edit]) -> Vec<Entry> {

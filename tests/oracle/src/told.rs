@@ -1,5 +1,5 @@
 //! The naive answers in the shape in which the port tells its own.
-use crate::naive::{self, Entry, Header, Key, Numbers};
+use crate::naive::{Entry, Header, Key, Numbers};
 use crate::port::{Built, Checked, EntryRead, Size};
 
 pub fn checked(r: Result<Header, u64>) -> Checked {
@@ -14,39 +14,22 @@ pub fn checked(r: Result<Header, u64>) -> Checked {
         },
         Err(refusal) => Checked {
             refusal,
-            number: 0,
-            n: 0,
-            m: 0,
-            q: 0,
-            bits: 0,
+            ..Default::default()
         },
     }
 }
 
 /// The answer, and the key's buffer afterwards.
 pub fn entry(r: Result<Entry, u64>, was: &Key) -> (EntryRead, Key) {
-    match r {
-        Ok(e) => (
-            EntryRead {
-                refusal: 0,
-                pointer: e.pointer as u64,
-            },
-            e.key,
-        ),
-        Err(refusal) => (
-            EntryRead {
-                refusal,
-                pointer: 0,
-            },
-            *was,
-        ),
-    }
+    let (refusal, key) = written(r.map(|e| e.key), was);
+    let pointer = r.map_or(0, |e| e.pointer as u64);
+    (EntryRead { refusal, pointer }, key)
 }
 
 pub fn size(r: Result<u64, u64>) -> Size {
-    match r {
-        Ok(value) => Size { refusal: 0, value },
-        Err(refusal) => Size { refusal, value: 0 },
+    Size {
+        refusal: r.err().unwrap_or(0),
+        value: r.unwrap_or(0),
     }
 }
 
@@ -62,23 +45,12 @@ pub fn built(r: Result<Numbers, u64>) -> Built {
         },
         Err(refusal) => Built {
             refusal,
-            n: 0,
-            m: 0,
-            q: 0,
-            bits: 0,
-            undo: 0,
+            ..Default::default()
         },
     }
 }
 
 /// The number, and the buffer afterwards.
 pub fn written(r: Result<Key, u64>, was: &Key) -> (u64, Key) {
-    match r {
-        Ok(key) => (0, key),
-        Err(refusal) => (refusal, *was),
-    }
-}
-
-pub fn build(base: &[u8], record: &[u8], number: u32, page: &mut [u8], undo: &mut [u8]) -> Built {
-    built(naive::build(base, record, number, page, undo))
+    (r.err().unwrap_or(0), r.unwrap_or(*was))
 }

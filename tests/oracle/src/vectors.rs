@@ -1,9 +1,12 @@
-//! The naive implementation, and the port where it is linked, on a file of cases of document 01.
+//! The naive implementation and the port on a file of cases of document 01.
 //! One case a line, tabs between fields: operation, arguments, `=>`, `A` and values, or `R`, the
 //! number and two fields, and then lent memory afterwards.
 use crate::naive::{self, Key};
 use crate::{port, told};
 use std::collections::BTreeMap;
+
+// a buffer for a key, before it is lent
+const LENT: Key = [7; 32];
 
 pub fn unhex(s: &str) -> Vec<u8> {
     if s == "-" {
@@ -40,125 +43,108 @@ fn answer<T>(r: &Result<T, u64>, values: impl Fn(&T) -> Vec<String>) -> Vec<Stri
     }
 }
 
+fn numbers(all: &[usize]) -> Vec<String> {
+    all.iter().map(|v| v.to_string()).collect()
+}
+
 // what is answered, as the fields of a line but the two to skip; and whether the port says the same
-fn case(op: &str, x: &[&str]) -> (Vec<String>, bool) {
-    let one = |v: &u64| vec![v.to_string()];
-    let linked = port::LINKED;
+type Case = (Vec<String>, bool);
+
+fn number(naive: usize, mine: u64) -> Case {
+    (answer(&Ok(naive), |n| numbers(&[*n])), mine == naive as u64)
+}
+
+fn size(naive: Result<u64, u64>, mine: port::Size) -> Case {
+    let fields = answer(&naive, |v| vec![v.to_string()]);
+    (fields, mine == told::size(naive))
+}
+
+// one of the two conversions between lengths, of four numbers
+fn lengths(
+    x: &[&str],
+    naive: fn(u64, u64, u64, u64) -> Result<u64, u64>,
+    port: fn(u64, u64, u64, u64) -> port::Size,
+) -> Case {
+    let (a, b, c, d) = (num(x[0]), num(x[1]), num(x[2]), num(x[3]));
+    size(naive(a, b, c, d), port(a, b, c, d))
+}
+
+// a key that is written to a buffer of LENT
+fn written(naive: Result<Key, u64>, mine: impl FnOnce(&mut Key) -> u64) -> Case {
+    let mut out = LENT;
+    let same = (mine(&mut out), out) == told::written(naive, &LENT);
+    (answer(&naive, |k| vec![hex(k)]), same)
+}
+
+fn case(op: &str, x: &[&str]) -> Case {
     match op {
         "sep_len" => {
-            let n = naive::separator_len(&key(x[0])) as u64;
-            (
-                answer(&Ok(n), one),
-                !linked || port::separator_len(&key(x[0])) == n,
-            )
+            let k = key(x[0]);
+            number(naive::separator_len(&k), port::separator_len(&k))
         }
         "shared" => {
-            let n = naive::shared(&key(x[0]), &key(x[1])) as u64;
-            (
-                answer(&Ok(n), one),
-                !linked || port::prefix_len(&key(x[0]), &key(x[1])) == n,
-            )
+            let (a, b) = (key(x[0]), key(x[1]));
+            number(naive::shared(&a, &b), port::prefix_len(&a, &b))
         }
         "separate" => {
             let (a, b) = (key(x[0]), key(x[1]));
-            let r = naive::separate(&a, &b);
-            let mut out = [7; 32];
-            let same =
-                !linked || (port::separate(&a, &b, &mut out), out) == told::written(r, &[7; 32]);
-            (answer(&r, |k| vec![hex(k)]), same)
+            written(naive::separate(&a, &b), |out| port::separate(&a, &b, out))
         }
         "copy" => {
             let (dst, src) = (unhex(x[0]), unhex(x[2]));
             let (to, from, len) = (num(x[1]), num(x[3]), num(x[4]));
-            let mut d = dst.clone();
-            let r = naive::bit_copy(&mut d, to, &src, from, len);
-            let mut e = dst.clone();
-            let same = !linked
-                || port::bit_copy(&mut e, to as usize, &src, from as usize, len as usize)
-                    == r.err().unwrap_or(0)
-                    && e == d;
+            let (mut plain, mut mine) = (dst.clone(), dst);
+            let r = naive::bit_copy(&mut plain, to, &src, from, len);
+            let no = port::bit_copy(&mut mine, to as usize, &src, from as usize, len as usize);
             let mut fields = answer(&r, |_| vec![]);
-            fields.push(hex(&d));
-            (fields, same)
+            fields.push(hex(&plain));
+            (fields, no == r.err().unwrap_or(0) && mine == plain)
         }
         "rebuild" => {
             let (prefix, sep) = (unhex(x[0]), unhex(x[2]));
             let (p, start, s) = (num(x[1]), num(x[3]), num(x[4]));
-            let r = naive::rebuild(&prefix, p, &sep, start, s);
-            let mut out = [7; 32];
-            let same = !linked
-                || (
-                    port::reconstruct_key(
-                        &prefix,
-                        p as usize,
-                        &sep,
-                        start as usize,
-                        s as usize,
-                        &mut out,
-                    ),
-                    out,
-                ) == told::written(r, &[7; 32]);
-            (answer(&r, |k| vec![hex(k)]), same)
+            written(naive::rebuild(&prefix, p, &sep, start, s), |out| {
+                port::reconstruct_key(&prefix, p as usize, &sep, start as usize, s as usize, out)
+            })
         }
         "body" => {
-            let r = naive::body_size(num(x[0]), num(x[1]), num(x[2]));
-            let same = !linked || port::body_size(num(x[0]), num(x[1]), num(x[2])) == told::size(r);
-            (answer(&r, one), same)
+            let (q, sum, n) = (num(x[0]), num(x[1]), num(x[2]));
+            size(naive::body_size(q, sum, n), port::body_size(q, sum, n))
         }
-        "whole" => {
-            let y: Vec<u64> = x.iter().map(|s| num(s)).collect();
-            let r = naive::whole_from_stored(y[0], y[1], y[2], y[3]);
-            let same = !linked
-                || port::uncompressed_separator_range_size(y[0], y[1], y[2], y[3]) == told::size(r);
-            (answer(&r, one), same)
-        }
-        "stored" => {
-            let y: Vec<u64> = x.iter().map(|s| num(s)).collect();
-            let r = naive::stored_from_whole(y[0], y[1], y[2], y[3]);
-            let same = !linked
-                || port::compressed_separator_range_size(y[0], y[1], y[2], y[3]) == told::size(r);
-            (answer(&r, one), same)
-        }
+        "whole" => lengths(
+            x,
+            naive::whole_from_stored,
+            port::uncompressed_separator_range_size,
+        ),
+        "stored" => lengths(
+            x,
+            naive::stored_from_whole,
+            port::compressed_separator_range_size,
+        ),
         "check" => {
             let page = unhex(x[0]);
             let r = naive::check(&page);
-            let same = !linked || port::check(&page) == told::checked(r);
-            let values = [r.map_or(vec![], |h| {
-                vec![h.number as usize, h.n, h.m, h.q, h.bits]
-                    .iter()
-                    .map(|v| v.to_string())
-                    .collect()
-            })];
-            (answer(&r, |_| values[0].clone()), same)
+            let fields = answer(&r, |h| numbers(&[h.number as usize, h.n, h.m, h.q, h.bits]));
+            (fields, port::check(&page) == told::checked(r))
         }
         "entry" => {
             let (page, index) = (unhex(x[0]), num(x[1]));
             let r = naive::entry(&page, index);
-            let mut out = [7; 32];
-            let same = !linked
-                || (port::entry(&page, index as usize, &mut out), out) == told::entry(r, &[7; 32]);
-            (
-                answer(&r, |e| vec![hex(&e.key), e.pointer.to_string()]),
-                same,
-            )
+            let mut out = LENT;
+            let mine = port::entry(&page, index as usize, &mut out);
+            let fields = answer(&r, |e| vec![hex(&e.key), e.pointer.to_string()]);
+            (fields, (mine, out) == told::entry(r, &LENT))
         }
         "build" => {
             let (base, record, number) = (unhex(x[0]), unhex(x[1]), num(x[2]) as u32);
             let (mut page, mut undo) = (unhex(x[3]), unhex(x[4]));
             let (mut page2, mut undo2) = (page.clone(), undo.clone());
             let r = naive::build(&base, &record, number, &mut page, &mut undo);
-            let same = !port::BUILDS
-                || port::build(&base, &record, number, &mut page2, &mut undo2) == told::built(r)
-                    && page2 == page
-                    && undo2 == undo;
-            let mut fields = answer(&r, |b| {
-                [b.n, b.m, b.q, b.bits, b.undo]
-                    .iter()
-                    .map(|v| v.to_string())
-                    .collect()
-            });
+            let mine = port::build(&base, &record, number, &mut page2, &mut undo2);
+            let mut fields = answer(&r, |b| numbers(&[b.n, b.m, b.q, b.bits, b.undo]));
             fields.push(hex(&page));
             fields.push(hex(&undo));
+            let same = mine == told::built(r) && page2 == page && undo2 == undo;
             (fields, same)
         }
         _ => panic!("an operation that is not known: {op}"),
@@ -193,10 +179,6 @@ pub fn run(path: &str) -> bool {
     for (op, (all, refused)) in counts {
         println!("{op:10} {all:6} cases, {refused:6} refused");
     }
-    println!(
-        "port: linked {}, with build {}; {bad} differences",
-        port::LINKED,
-        port::BUILDS
-    );
+    println!("port and naive: {bad} differences");
     bad == 0
 }
