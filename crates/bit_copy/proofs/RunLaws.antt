@@ -1,29 +1,24 @@
 -- Laws of ranges (format's `inside`), of runs of bits that have been copied (`Moved` of specs/Runs.antt) and of the
 -- bytes that then stand there (format's `bitsCopied`).
--- In order: ranges; runs one after the other; the bytes; bits copied behind others into zeros.
+-- In order: ranges; runs one after the other; the bytes.
 -- Assumes nothing.
 use mathlib.Core.Bool.{Bool, true, false, _||_}
-use mathlib.Core.List.{List, [], _++_, append-assoc}
+use mathlib.Core.List.{List, _++_, append-assoc}
 use mathlib.Core.Path.{_≡_, refl, sym, ap, ap₂, _∙_}
-use Prim.Native.Nat.{ℕ, zero, suc, _+_, _-_, _*_, _≤_}
-use native.Mathlib.Nat.{sub-zero, suc-sub-suc, zero-sub}
+use Prim.Native.Nat.{ℕ, _+_, _-_, _*_, _≤_}
 use native.Mathlib.Omega.{arith}
 use borrow.Author.Tests.{eqb-true, le-leb, leb-true, ne-eqb}
 use lib.Dec.{eqb, leb}
-use lib.ListN.{length, getD, take, drop, replicate, length-append, length-drop}
-use lib.Seq.{drop-append-add, drop-drop, drop-paste, length-paste, length-take-le, paste, paste-zero, take-add}
+use lib.ListN.{length, getD, take, drop, length-drop}
+use lib.Seq.{drop-drop, drop-paste, paste, paste-zero, take-add}
 use lib.Seq.{take-paste}
 use mir.Syntax.{w8}
 use mir.Val.{Fits}
-use Rattle.format.specs.Bits.{AllBelow, bitsOf, fill, pack}
-use Rattle.format.specs.Answer.{afterwards, first, unless}
-use Rattle.format.specs.Ranges.{inside, bitsCopied, bitCopy}
-use Rattle.format.specs.declared.refusal.Outcome.{Outcome}
-use Rattle.facts.proofs.BitsLaws.{allBelow-append, allBelow-bitsOf, allBelow-drop, allBelow-take, at-below}
-use Rattle.facts.proofs.BitsLaws.{bitsOf-pack, bitsOf-zeros, fill-exact, fill-nil, fill-short, length-bitsOf, packed}
-use Rattle.facts.proofs.BitsLaws.{take-fill}
+use Rattle.format.specs.Bits.{bitsOf, pack}
+use Rattle.format.specs.Ranges.{inside, bitsCopied}
+use Rattle.facts.proofs.BitsLaws.{at-below}
+use Rattle.facts.proofs.BitsLaws.{length-bitsOf, packed}
 use Rattle.bit_copy.specs.Runs.{Moved}
-use Rattle.bit_copy.specs.Calls.{Copied}
 
 -- ---- ranges
 
@@ -98,39 +93,3 @@ module _ (d : List ℕ) (at : ℕ) (s : List ℕ) (from n : ℕ) where
   moved-bytes d′ p l b =
       packed d′ (paste (bitsOf d) at (drop from (bitsOf s)) n) (at-below 256 d′ (λ j. b j .fits)) (p .moved)
       ∙ ap (λ (k : ℕ). pack k (paste (bitsOf d) at (drop from (bitsOf s)) n)) l
-
--- a copy between ranges that lie inside
-pub copied-bytes : (d : List ℕ) (to : ℕ) (s : List ℕ) (from n : ℕ) (r : Outcome) (d′ : List ℕ) → inside (length d) to n ≡ true
-    → inside (length s) from n ≡ true
-    → Copied d to s from n r d′ → d′ ≡ bitsCopied d to s from n
-unfolding bitCopy unless first afterwards
-copied-bytes d to s from n r d′ p q c = rw (p, q) at (c .written)
-
--- ---- into zeros
-
-drop-replicate : (k n x : ℕ) → drop k (replicate n x) ≡ replicate (n - k) x
-drop-replicate zero n x = ap (λ (m : ℕ). replicate m x) (sym (sub-zero n))
-drop-replicate (suc k) zero x = ap (λ (m : ℕ). replicate m x) (sym (zero-sub (suc k)))
-drop-replicate (suc k) (suc n) x = drop-replicate k n x ∙ ap (λ (m : ℕ). replicate m x) (sym (suc-sub-suc n k))
-
--- n bits of bs behind all of xs
-pub paste-fill : (size : ℕ) (xs bs : List ℕ) (n : ℕ) → length xs + n ≤ size → n ≤ length bs
-    → paste (fill size xs) (length xs) bs n ≡ fill size (xs ++ take n bs)
-paste-fill size xs bs n h l =
-    let front : take (length xs) (fill size xs) ≡ xs =
-    take-fill (length xs) size xs (omega arith) ∙ fill-exact xs (length xs) refl in
-    let zeros : drop (length xs + n) (fill size xs) ≡ replicate ((size - length xs) - n) 0 =
-    ap (drop (length xs + n)) (fill-short size xs (omega arith)) ∙ drop-append-add xs (replicate (size - length xs) 0) n
-    ∙ drop-replicate n (size - length xs) 0 in
-    let len : length (xs ++ take n bs) ≡ length xs + n =
-    length-append xs (take n bs) ∙ ap (λ (m : ℕ). length xs + m) (length-take-le n bs l) in
-    let e : (size - length xs) - n ≡ size - length (xs ++ take n bs) = omega arith in
-    ap₂ (λ (f r : List ℕ). f ++ take n bs ++ r) front zeros ∙ ap (λ (m : ℕ). xs ++ take n bs ++ replicate m 0) e
-    ∙ sym (fill-short size (xs ++ take n bs) (omega arith))
-
--- n bits of bs into k bytes of zeros
-pub paste-zeros : (k : ℕ) (bs : List ℕ) (n : ℕ) → n ≤ 8 * k → n ≤ length bs
-    → paste (bitsOf (replicate k 0)) 0 bs n ≡ fill (8 * k) (take n bs)
-paste-zeros k bs n h l =
-    ap (λ (z : List ℕ). paste z 0 bs n) (bitsOf-zeros k ∙ sym (fill-nil (8 * k)))
-    ∙ paste-fill (8 * k) [] bs n (omega arith) l

@@ -7,7 +7,8 @@ use format::refusal::Refusal;
 use keys::Key;
 ghost use mathlib.Core.Path.{_≡_};
 ghost use Prim.Native.Nat.{_≤_};
-ghost use Rattle.format.specs.Bits.{bitsOf};
+ghost use lib.ListN.{take};
+ghost use Rattle.format.specs.Bits.{bitsOf, fill, pack};
 ghost use Rattle.format.specs.Key.{below, sharedBits, separatorLength};
 ghost use Rattle.bit_ops.specs.Calls.{Separated, Rebuilt};
 
@@ -60,18 +61,25 @@ fn is_below(a: &[u8; 32], b: &[u8; 32]) -> bool
     x.less(y)
 }
 
+// The first n bits of b, and zeros, into `out`.
+fn put_first(b: &[u8; 32], n: usize, out: &mut [u8; 32])
+    ensures written { λ _. ⌜ now (out .exit) ≡ pack 32 (fill 256 (take n (bitsOf (now (b .entry))))) ⌝ }
+{
+    let s = &b[..];
+    let k = Key::zero().with_bits(0, s, 0, n);
+    k.to_bytes(out);
+}
+
 // Separate a and b, a < b: `out` becomes the first (shared + 1) bits of b, then zeros. Refused with
 // 17 where a is not below b, and then `out` is as it was.
 pub fn separate(a: &[u8; 32], b: &[u8; 32], out: &mut [u8; 32]) -> Outcome
     ensures { λ r. ⌜ Separated (now (a .entry)) (now (b .entry)) (now (out .entry)) r (now (out .exit)) ⌝ }
 {
-    let s = &b[..];
     if !is_below(a, b) {
         return Outcome::Refused(Refusal::NotBelow);
     }
     let n = prefix_len_by_words(a, b);
-    *out = [0u8; 32];
-    bit_copy::bitwise_memcpy(out, 0, s, 0, n + 1);
+    put_first(b, n + 1, out);
     Outcome::Done
 }
 
@@ -100,8 +108,8 @@ pub fn reconstruct_key(
     if 256 - prefix_bits < bits {
         return Outcome::Refused(Refusal::Unrepresentable);
     }
-    *out = [0u8; 32];
-    bit_copy::bitwise_memcpy(out, 0, prefix, 0, prefix_bits);
-    bit_copy::bitwise_memcpy(out, prefix_bits, separator, start, bits);
+    let k = Key::zero().with_bits(0, prefix, 0, prefix_bits);
+    k.with_bits(prefix_bits, separator, start, bits)
+        .to_bytes(out);
     Outcome::Done
 }

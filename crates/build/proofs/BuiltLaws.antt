@@ -2,9 +2,8 @@
 -- In order: refused by the base, by the output page, by the rest; accepted; what is known before page and undo buffer
 -- are written, and what is written.
 -- Assumes nothing.
-use mathlib.Core.Bool.{Bool, cond, false, not, true}
-use mathlib.Core.List.{List, [], _∷_, _++_}
-use mathlib.Core.Logic.{_⊎_, inl, inr}
+use mathlib.Core.Bool.{Bool, false, not, true}
+use mathlib.Core.List.{List, _∷_, _++_}
 use mathlib.Core.Path.{_≡_, refl, sym, ap, ap₂, subst, _∙_}
 use Prim.Native.Nat.{ℕ, zero, suc, _≤_, _<_}
 use native.Mathlib.Nat.{not-suc-le-zero}
@@ -19,7 +18,7 @@ use Rattle.format.specs.Normal.{choice, fits, keys, normalPage, pageUnder}
 use Rattle.format.specs.Page.{Entry, Sound, compressed, count, entries, entryOf, keyOf, pageRefusal, prefixLength}
 use Rattle.format.specs.Undo.{undoRecord}
 use Rattle.facts.proofs.AcceptedLaws.{Accepted, accepted-pageRefusal}
-use Rattle.facts.proofs.AnswerLaws.{first-append, first-none, first-stop}
+use Rattle.facts.proofs.AnswerLaws.{first-none, first-stop}
 use Rattle.facts.proofs.BuildLaws.{build-none, build-refuses, buildTests-later, first-later, laterTests}
 use Rattle.facts.proofs.PageLaws.{entries-at}
 use Rattle.node.specs.declared.reader.Header.{Header}

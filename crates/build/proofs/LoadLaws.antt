@@ -4,7 +4,7 @@ use mathlib.Core.Bool.{true}
 use mathlib.Core.List.{List, [], _∷_}
 use mathlib.Core.Logic.{inl, inr}
 use mathlib.Core.Path.{_≡_, refl, sym, ap, ap₂, subst, _∙_}
-use Prim.Native.Nat.{ℕ, zero, suc, _≤_, _<_}
+use Prim.Native.Nat.{ℕ, _≤_, _<_}
 use native.Mathlib.Nat.{not-suc-le-zero}
 use native.Mathlib.Omega.{arith}
 use lib.ListN.{length}
@@ -12,7 +12,7 @@ use Rattle.format.specs.Answer.{Answer, first}
 use Rattle.format.specs.Bits.{AllBelow}
 use Rattle.format.specs.Build.{baseTests}
 use Rattle.format.specs.Edit.{ascending}
-use Rattle.format.specs.Page.{Entry, Sound, checkPage, compressed, count, entries, pageRefusal, prefixLength}
+use Rattle.format.specs.Page.{Sound, checkPage, entries, pageRefusal}
 use Rattle.format.specs.Refusals.{refusalNumber}
 use Rattle.facts.proofs.AcceptedLaws.{accepted-pageRefusal, entries-ascending}
 use Rattle.facts.proofs.PageLaws.{entries-sound}

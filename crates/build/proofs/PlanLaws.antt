@@ -2,23 +2,21 @@
 -- rows and in the scratch bytes where none of them holds (`Planned`).
 -- In order: the tests; the record's; the choice; the undo record; the whole.
 -- Assumes nothing.
-use mathlib.Core.Bool.{Bool, cond, false, not, true}
+use mathlib.Core.Bool.{Bool, false, not, true}
 use mathlib.Core.List.{List, [], _∷_, _++_}
 use mathlib.Core.Path.{_≡_, refl, sym, ap, ap₂, subst, _∙_}
-use Prim.Native.Nat.{ℕ, zero, suc, _+_, _-_, _*_, _/_, _≤_, _<_}
+use Prim.Native.Nat.{ℕ, zero, suc, _+_, _-_, _≤_, _<_}
 use native.Mathlib.Nat.{not-suc-le-zero}
 use native.Mathlib.Omega.{arith}
 use borrow.Author.Tests.{le-ltb, leb-false, leb-true, lt-ltb, ne-eqb, not-false, not-true}
-use lib.Dec.{eqb, leb, ltb}
+use lib.Dec.{leb, ltb}
 use lib.ListN.{length, take}
 use Rattle.format.specs.Answer.{Answer, FirstHolds, NoneHolds, Test, first, refuse, unless}
-use Rattle.format.specs.Build.{Numbers, editTests, editsOf, malformed}
-use Rattle.format.specs.Edit.{AllWellFormed, Edit, anyOutside, apply, ascending, readRecord, recordOf}
+use Rattle.format.specs.Build.{Numbers, editTests, editsOf}
+use Rattle.format.specs.Edit.{AllWellFormed, Edit, anyOutside, apply, readRecord, recordOf}
 use Rattle.format.specs.Normal.{Choice, choice, fits, keys}
 use Rattle.format.specs.Page.{Entry, Sound, bodyBytes}
-use Rattle.format.specs.Refusals.{refusalNumber}
 use Rattle.format.specs.Undo.{undoEdits, undoRecord}
-use Rattle.format.specs.declared.refusal.Refusal.{Refusal}
 use Rattle.facts.proofs.AnswerLaws.{Numbered, first-append, first-stop, firstHolds-first, firstHolds-number, noneHolds-append, unless-refused}
 use Rattle.facts.proofs.ChoiceLaws.{fits-most}
 use Rattle.facts.proofs.EditLaws.{length-apply, sound-apply}
@@ -34,8 +32,7 @@ use Rattle.branch_ops.proofs.ChoiceLaws.{chosenOf-normal}
 use Rattle.branch_ops.proofs.WriterLaws.{recordIn-recordOf, size-recordOf}
 use Rattle.undo.specs.Walk.{undoSize, walk}
 use Rattle.undo.proofs.WalkLaws.{walk-undoEdits}
-use Rattle.build.specs.declared.Numbers.{Numbers as CodeNumbers}
-use Rattle.build.specs.Built.{Old, Planned, changeTests, numbersMeant}
+use Rattle.build.specs.Built.{Old, Planned, changeTests}
 use Rattle.build.proofs.SourceLaws.{sourced-rows}
 
 -- ---- the tests

@@ -2,7 +2,7 @@
 -- 15. What a build means: `build` of format's specs/Build.antt.
 -- In order: numbersMeant builtAnswer · Held BaseKnown Old · changeTests Planned Planning · Ready.
 -- Assumes nothing.
-use mathlib.Core.Bool.{not, true}
+use mathlib.Core.Bool.{true}
 use mathlib.Core.List.{List, [], _∷_}
 use mathlib.Core.Logic.{_⊎_}
 use mathlib.Core.Path.{_≡_}

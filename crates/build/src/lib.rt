@@ -3,7 +3,7 @@
 // specs/Build.antt. What the answers mean: specs/Built.antt.
 // A build takes some 90 KB of stack, two tables of 682 rows and the undo record, and no heap.
 ghost use mathlib.Core.Path.{_≡_};
-ghost use Prim.Native.Nat.{_≤_, _<_};
+ghost use Prim.Native.Nat.{_<_};
 ghost use mathlib.Core.List.{_++_};
 ghost use lib.ListN.{length, drop, take};
 ghost use Rattle.format.specs.Normal.{normalPage};

@@ -5,18 +5,18 @@
 use mathlib.Core.Bool.{Bool, true, false, _&&_, not, false≢true}
 use mathlib.Core.List.{List, [], _++_, append-assoc}
 use mathlib.Core.Path.{_≡_, refl, sym, ap, ap₂, subst, _∙_}
-use Prim.Native.Nat.{ℕ, zero, suc, _+_, _-_, _*_, _≤_, _<_}
+use Prim.Native.Nat.{ℕ, suc, _+_, _-_, _*_, _≤_, _<_}
 use native.Mathlib.Omega.{arith}
 use borrow.Author.Tests.{eq-eqb, ne-eqb, lt-ltb, le-ltb, eqb-true, ltb-true, leb-true, not-false}
 use lib.Dec.{eqb, ltb, leb}
 use lib.ListN.{length, take, drop, length-drop}
 use lib.Seq.{paste, take-add, drop-drop}
-use Rattle.format.specs.Bits.{bitsOf, unle}
+use Rattle.format.specs.Bits.{bitsOf}
 use Rattle.format.specs.Key.{separatorLength}
 use Rattle.format.specs.Page.{endOf, startOf}
 use Rattle.format.specs.Normal.{sum}
 use Rattle.facts.proofs.BitsLaws.{length-bitsOf}
-use Rattle.facts.proofs.PageLaws.{startOf-suc, startOf-zero}
+use Rattle.facts.proofs.PageLaws.{startOf-suc}
 use Rattle.facts.proofs.StoredLaws.{sum-take-suc, sum-take-le}
 use Rattle.format.specs.declared.refusal.Outcome.{Outcome}
 use Rattle.bit_copy.specs.Calls.{Copied}
@@ -30,21 +30,6 @@ use Rattle.builder.proofs.RowLaws.{rowsBits-next}
 use Rattle.builder.proofs.PushLaws.{pushed-bits, pushed-more}
 
 -- ---- kept rows
-
-pub end-is : (p : List ℕ) (i r : ℕ) → r ≡ unle (take 2 (drop (10 + 2 * i) p)) → r ≡ endOf p i
-unfolding endOf
-end-is p i r e = e
-
--- a separator starts at 0, or where the one before ends
-pub start-none : (p : List ℕ) (i : ℕ) → i < 1 → 0 ≡ startOf p i
-start-none p zero h = sym (startOf-zero p)
-start-none p (suc i) h = absurd (omega arith)
-
-pub start-end : (p : List ℕ) (i r : ℕ) → 1 ≤ i → r ≡ endOf p (i - 1) → r ≡ startOf p i
-start-end p zero r h e = absurd (omega arith)
-start-end p (suc i) r h e =
-    let a : suc i - 1 ≡ i = omega arith in
-    e ∙ ap (endOf p) a ∙ sym (startOf-suc p i)
 
 -- four tests that hold, each by itself
 pub all-four : (a b c d : Bool) → (a && b && c && d) ≡ true → (a ≡ true) × (b ≡ true) × (c ≡ true) × (d ≡ true)

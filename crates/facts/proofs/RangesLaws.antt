@@ -6,7 +6,7 @@
 use mathlib.Core.Bool.{Bool, _&&_, _||_, cond, false, not, true}
 use mathlib.Core.List.{_++_, List, [], _∷_}
 use mathlib.Core.Logic.{inl, inr, _⊎_}
-use mathlib.Core.Path.{ap, ap₂, refl, subst, sym, _∙_, _≡_}
+use mathlib.Core.Path.{ap, refl, subst, sym, _∙_, _≡_}
 use Prim.Native.Nat.{_*_, _+_, _-_, _<_, suc, zero, ℕ, _≤_}
 use native.Mathlib.Numerals.{add-one}
 use native.Mathlib.Omega.{arith}
@@ -14,13 +14,12 @@ use borrow.Author.Tests.{eqb-true, leb-true}
 use lib.Dec.{eqb, leb}
 use lib.ListN.{drop, getD, length, length-drop, replicate, take}
 use lib.Seq.{drop-at, drop-paste, getD-drop, getD-take, length-paste, length-take-le, paste, paste-zero, take-at, take-paste}
-use Rattle.format.specs.Bits.{AllBelow, bitsOf, fill, pack}
+use Rattle.format.specs.Bits.{AllBelow, bitsOf, fill}
 use Rattle.format.specs.Key.{IsKey, below, separator, sharedBits}
 use Rattle.format.specs.Answer.{Answer, first, unless}
 use Rattle.format.specs.Ranges.{bitCopy, bitsCopied, inside, separate}
-use Rattle.facts.proofs.AnswerLaws.{and-left, and-right}
 use Rattle.facts.proofs.BitsLaws.{allBelow-append, allBelow-bitsOf, allBelow-drop, allBelow-fill, allBelow-pack, allBelow-take, bitsOf-pack, fill-cons, fill-exact, fill-nil, length-bitsOf, length-fill, length-pack}
-use Rattle.facts.proofs.KeyLaws.{below-cases, below-less, below-more, below-nil, below-same, sharedBits-more, sharedBits-stop}
+use Rattle.facts.proofs.KeyLaws.{below-cases, below-less, below-more, below-nil, below-same, sharedBits-more}
 
 -- ---- separate
 

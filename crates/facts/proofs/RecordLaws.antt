@@ -17,7 +17,7 @@ use Rattle.format.specs.Bits.{AllBelow, bits, bitsOf, bytesFor, pack, value}
 use Rattle.format.specs.Edit.{AllWellFormed, Edit, WellFormed, andThen, editBits, editOf, editsBits, fieldBits, padding, readEdits, readRecord, recordOf}
 use Rattle.format.specs.Edit.Edit.{Insert, Keep, Update}
 use Rattle.facts.proofs.AnswerLaws.{and-left, and-right, or-left, or-right}
-use Rattle.facts.proofs.BitsLaws.{allBelow-append, allBelow-bits, allBelow-bitsOf, allBelow-drop, allBelow-pack, allBelow-take, bits-value, bitsOf-pack, bytesFor-exact, bytesFor-holds, bytesFor-slack, fill-short, length-bits, length-bitsOf, length-pack, pack-bitsOf, pack-zeros, value-lt, value-of-bits, value-zero, value-zeros}
+use Rattle.facts.proofs.BitsLaws.{allBelow-append, allBelow-bits, allBelow-bitsOf, allBelow-drop, allBelow-take, bits-value, bitsOf-pack, bytesFor-exact, bytesFor-holds, bytesFor-slack, fill-short, length-bits, length-bitsOf, length-pack, pack-bitsOf, pack-zeros, value-lt, value-of-bits, value-zero, value-zeros}
 
 -- ---- the record's length
 

@@ -7,26 +7,26 @@ use mathlib.Core.Bool.{true, false}
 use mathlib.Core.List.{List, [], _∷_, _++_, map}
 use mathlib.Core.Logic.{_≢_, inr}
 use mathlib.Core.Option.{some}
-use mathlib.Core.Path.{_≡_, refl, sym, _∙_}
-use Prim.Native.Nat.{ℕ, suc, _+_, _-_, _*_, _^_, _≤_, _<_, min}
+use mathlib.Core.Path.{_≡_, refl}
+use Prim.Native.Nat.{ℕ, _+_, _-_, _*_, _≤_, _<_, min}
 use native.Mathlib.Omega.{arith}
 use lib.Dec.{leb}
-use lib.ListN.{drop, getD, length, length-append, length-replicate, replicate, take}
+use lib.ListN.{drop, getD, length, length-append, length-replicate, take}
 use Rattle.format.specs.Bits.{AllBelow, bits, value}
 use Rattle.format.specs.Key.{IsKey, below, separatorLength, sharedBits}
 use Rattle.format.specs.Answer.{Answer, FirstHolds, NoneHolds, refuse}
-use Rattle.format.specs.Page.{Entry, Sound, bodyBytes, checkPage, count, each, entries, pageNumber, pageRefusal, pageTests, prefixLength, readEntry, startOf}
+use Rattle.format.specs.Page.{Entry, Sound, bodyBytes, checkPage, count, each, entries, pageNumber, pageRefusal, pageTests, prefixLength, startOf}
 use Rattle.format.specs.Sizes.{storedFromWhole, wholeFromStored}
 use Rattle.format.specs.Ranges.{bitCopy, separate}
 use Rattle.format.specs.Normal.{Permitted, bitsUnder, candidate, choice, fits, keys, normalPage, pageUnder, storedLengths, sum}
-use Rattle.format.specs.Edit.{AllWellFormed, Edit, anyOutside, apply, ascending, readRecord, recordOf}
+use Rattle.format.specs.Edit.{Edit, anyOutside, apply, ascending, readRecord, recordOf}
 use Rattle.format.specs.Edit.Edit.{Insert, Keep, Update}
 use Rattle.format.specs.Undo.{undoEdits}
 use Rattle.format.specs.Build.{Numbers, build, buildTests, refused}
 use Rattle.facts.proofs.BitsLaws.{allBelow-append, allBelow-bits, allBelow-replicate, length-bits}
 use Rattle.facts.proofs.KeyLaws.{isKey-bitsOf}
 use Rattle.facts.proofs.EntryLaws.{sound-append, sound-each}
-use Rattle.facts.proofs.NormalLaws.{Laid, allBelow-pageUnder}
+use Rattle.facts.proofs.NormalLaws.{allBelow-pageUnder}
 use Rattle.format.proofs.Samples.{full, hex, key, lastKey, long, two, zeros}
 use Rattle.laws.specs.Words.{Between, CopiedFrom, LengthOf, SharedBy}
 use Rattle.laws.specs.Theorems.{Accepts, Gives, Lent, Once, ReadsAs, Rising, again}

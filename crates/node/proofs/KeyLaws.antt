@@ -13,7 +13,6 @@ use lib.Seq.{drop-drop, length-take-le}
 use Rattle.format.specs.Bits.{bitsOf, fill}
 use Rattle.format.specs.Page.{
   body,
-  compressed,
   count,
   endOf,
   keyOf,

@@ -5,22 +5,21 @@
 use mathlib.Core.Bool.{Bool, true, false, cond, _||_}
 use mathlib.Core.List.{List}
 use mathlib.Core.Path.{_≡_, refl, sym, ap, ap₂, subst, _∙_}
-use Prim.Native.Nat.{ℕ, zero, suc, _+_, _*_, _/_, _≤_, _<_}
+use Prim.Native.Nat.{ℕ, zero, suc, _+_, _/_, _≤_, _<_}
 use native.Mathlib.Numerals.{add-one}
 use native.Mathlib.Omega.{arith}
 use borrow.Author.Tests.{ne-eqb}
 use lib.Dec.{eqb}
 use lib.ListN.{length}
 use Rattle.format.specs.Answer.{Answer, unless}
-use Rattle.format.specs.Key.{IsKey}
 use Rattle.format.specs.Normal.{keys}
-use Rattle.format.specs.Page.{Entry, Header, checkPage, count, each, entries, entryOf, headerOf, keyOf, pageRefusal}
+use Rattle.format.specs.Page.{Entry, Header, checkPage, count, each, entries, entryOf, headerOf, pageRefusal}
 use Rattle.facts.proofs.AcceptedLaws.{Accepted, accepted-pageRefusal}
 use Rattle.facts.proofs.AnswerLaws.{or-false}
 use Rattle.facts.proofs.EntryLaws.{AreKeys, length-each}
 use Rattle.facts.proofs.PageLaws.{keyOf-key, length-entries}
-use Rattle.rows.specs.Rows.{rowSource, rows, withRow, withRows}
-use Rattle.rows.proofs.RowsLaws.{each-snoc, length-withRows, rows-withRows, rowSource-withRows, withRows-snoc}
+use Rattle.rows.specs.Rows.{rows, withRow, withRows}
+use Rattle.rows.proofs.RowsLaws.{each-snoc, length-withRows, rows-withRows, withRows-snoc}
 use Rattle.node.specs.declared.reader.Header.{Header as Numbers}
 use Rattle.node.specs.Reader.{SizesFit, headerMeant, loaded}
 

@@ -4,7 +4,7 @@
 -- SizesFit Sizing ShapeFits Shaping.
 -- Assumes nothing.
 use mathlib.Core.Path.{_≡_}
-use Prim.Native.Nat.{ℕ, suc, _+_, _-_, _*_, _≤_, _<_}
+use Prim.Native.Nat.{ℕ, suc, _+_, _-_, _≤_, _<_}
 use mathlib.Core.Bool.{Bool, false, _||_, cond, not}
 use mathlib.Core.List.{List}
 use lib.Dec.{eqb, ltb}

@@ -3,7 +3,7 @@
 // `bit_copy::bitwise_memcpy`.
 ghost use mathlib.Core.Path.{_≡_};
 ghost use mathlib.Core.List.{_++_};
-ghost use Prim.Native.Nat.{_+_, _-_, _*_, _^_, _≤_, _<_};
+ghost use Prim.Native.Nat.{_+_, _-_, _*_, _≤_, _<_};
 ghost use lib.ListN.{length, take, replicate};
 ghost use lib.Seq.{paste};
 ghost use Rattle.format.specs.Bits.{bits, bitsOf};

@@ -1,7 +1,7 @@
 // A page number as an argument: decimal digits, below 2^32.
 use crate::files;
 use libc::STDERR_FILENO;
-ghost use Prim.Native.Nat.{_<_, _≤_};
+ghost use Prim.Native.Nat.{_<_};
 
 // Whether an argument is a page number, and which.
 pub struct Number {

@@ -1,25 +1,22 @@
 -- Laws of the round trip: bytes that are the same; the normal page of a base; builds that bring a page; and demand 3,
 -- that an accepted build over a base always comes back (`comes-back`).
 -- Assumes nothing.
-use mathlib.Core.Bool.{Bool, true, false, _&&_, false≢true, true≢false}
+use mathlib.Core.Bool.{Bool, true, false, _&&_, false≢true}
 use mathlib.Core.List.{List, [], _∷_}
 use mathlib.Core.Logic.{_⊎_, inl, inr}
-use mathlib.Core.Path.{_≡_, refl, sym, ap, ap₂, subst, _∙_}
-use Prim.Native.Nat.{ℕ, zero, suc, _*_, _/_, _^_, _≤_, _<_}
-use native.Mathlib.Nat.{not-suc-le-zero}
+use mathlib.Core.Path.{_≡_, refl, sym, ap, ap₂, _∙_}
+use Prim.Native.Nat.{ℕ, _≤_, _<_}
 use native.Mathlib.Omega.{arith}
 use borrow.Author.Tests.{eq-eqb, eqb-true, ne-eqb}
 use lib.Dec.{eqb}
-use lib.ListN.{length, replicate, length-replicate, length-take, take}
-use Rattle.format.specs.Answer.{Answer, first, refuse, unless}
-use Rattle.format.specs.Bits.{AllBelow, unle}
+use lib.ListN.{length, length-replicate, length-take, take}
+use Rattle.format.specs.Answer.{Answer, first, unless}
 use Rattle.format.specs.Build.{Built, Numbers, build}
 use Rattle.format.specs.Normal.{Choice, choice, fits, keys, normalPage, pageUnder}
-use Rattle.format.specs.Page.{Entry, checkPage, count, entries, pageNumber, pageRefusal}
-use Rattle.format.specs.Undo.{undoRecord}
+use Rattle.format.specs.Page.{Entry, checkPage, entries, pageNumber, pageRefusal}
 use Rattle.facts.proofs.AcceptedLaws.{Accepted, accepted-pageRefusal, entries-fit, keys-entries-ascending}
 use Rattle.facts.proofs.AnswerLaws.{and-left, and-right}
-use Rattle.facts.proofs.BuildLaws.{Acceptable, Done, build-done}
+use Rattle.facts.proofs.BuildLaws.{Done, build-done}
 use Rattle.laws.specs.Theorems.{Gives, Lent, Once}
 use Rattle.laws.proofs.Proved.{back, forth}
 use Rattle.node.specs.declared.reader.Header.{Header}

@@ -2,7 +2,6 @@
 // new page again, each held against what it must give. What it means: specs/Trip.antt.
 // It takes some 250 KB of stack, with the build that runs in it, and no heap.
 ghost use mathlib.Core.Path.{_≡_};
-ghost use lib.ListN.{length};
 ghost use Rattle.format.specs.Build.{build};
 ghost use Rattle.round_trip.specs.Trip.{bringsAgain, bringsBack, isNormal, tripAnswer};
 use branch_ops::choice;

@@ -2,19 +2,18 @@
 -- In order: `each`; a row stored (`withRow`), what is then read in it and what in others; the entries of n rows
 -- (`rows`); rows stored one behind the other (`withRows`).
 -- Assumes nothing.
-use mathlib.Core.Bool.{Bool, true, false, cond}
+use mathlib.Core.Bool.{Bool, true, false}
 use mathlib.Core.List.{List, [], _∷_, _++_, append-assoc}
-use mathlib.Core.Logic.{⊎-elim}
 use mathlib.Core.Path.{_≡_, refl, sym, ap, ap₂, subst, _∙_}
 use Prim.Native.Nat.{ℕ, zero, suc, _+_, _-_, _*_, _/_, _≤_, _<_}
-use native.Mathlib.Nat.{eq-or-lt-of-le, add-zero}
+use native.Mathlib.Nat.{add-zero}
 use native.Mathlib.Omega.{arith}
 use native.Mathlib.Decide.{decLe}
 use borrow.Author.Tests.{lt-ltb, le-ltb, ltb-true, ltb-false}
 use lib.Dec.{ltb}
 use lib.ListN.{length, getD, take, drop, length-append, length-take, length-drop, List·getD-append}
-use lib.Seq.{take-add, take-all, drop-drop, getD-take, getD-drop, getD-append-add, length-take-le, length-paste, paste}
-use Rattle.format.specs.Bits.{bits, value, AllBelow}
+use lib.Seq.{take-add, take-all, getD-take, getD-drop, getD-append-add, length-take-le}
+use Rattle.format.specs.Bits.{bits, value}
 use Rattle.format.specs.Key.{IsKey}
 use Rattle.format.specs.Normal.{keys}
 use Rattle.format.specs.Page.{Entry, each}

@@ -1,7 +1,7 @@
 -- Laws of the size formulas (format's specs/Sizes.antt), in the steps in which 64-bit numbers answer them.
 -- In order: a difference; products and quotients.
 -- Assumes nothing.
-use mathlib.Core.Path.{_≡_, sym, ap, subst, _∙_}
+use mathlib.Core.Path.{_≡_, sym, ap, _∙_}
 use Prim.Native.Nat.{ℕ, _+_, _-_, _*_, _/_, _^_, _≤_, _<_}
 use native.Mathlib.Nat.{div-lt-iff-lt-mul}
 use native.Mathlib.Omega.{arith}

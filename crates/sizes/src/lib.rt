@@ -2,7 +2,7 @@
 // with 19 where it is below zero or does not fit 64 bits. What they mean: format's
 // specs/Sizes.antt, and `sizeAnswer` of specs/Sizes.antt.
 ghost use mathlib.Core.Path.{_≡_};
-ghost use Prim.Native.Nat.{_+_, _*_, _/_, _^_, _<_, min};
+ghost use Prim.Native.Nat.{_+_, _*_, _/_, _^_, _<_};
 ghost use Rattle.format.specs.Sizes.{difference, bodySize, wholeFromStored, storedFromWhole};
 ghost use Rattle.sizes.specs.Sizes.{sizeAnswer};
 use format::refusal::Refusal;

@@ -1,7 +1,6 @@
 -- What reading an entry through a view answers. Document 01, "The page", and the refusals 1 to 8 and 16.
 -- In order: seenAnswer.
 -- Assumes nothing.
-use Prim.Native.Nat.{ℕ}
 use Rattle.format.specs.Answer.{Answer}
 use Rattle.format.specs.Page.{Entry}
 use Rattle.format.specs.Refusals.{refusalNumber}

@@ -9,7 +9,6 @@ use mathlib.Core.List.{List, [], _∷_, _++_, append-nil}
 use mathlib.Core.Path.{_≡_, refl, sym, ap, ap₂, subst, _∙_}
 use Prim.Native.Nat.{ℕ, zero, suc, _+_, _-_, _*_, _/_, _%_, _^_, _≤_, _<_}
 use native.Mathlib.Nat.{add-zero, mod-lt, mul-assoc}
-use native.Mathlib.Numerals.{add-one}
 use native.Mathlib.Omega.{arith}
 use native.Mathlib.Decide.{decLe}
 use lib.Arith.{digits-lt}
@@ -26,7 +25,7 @@ use lib.ListN.{
   List·getD-eq-default,
 }
 use lib.Seq.{take-at, drop-at, take-all, take-append-add, drop-append-add, drop-cons, drop-drop, drop-nil, take-nil}
-use Rattle.format.specs.Bits.{bits, bitsOf, fill, unle}
+use Rattle.format.specs.Bits.{bits, bitsOf, fill}
 use Rattle.facts.proofs.BitsLaws.{
   length-bits,
   length-bitsOf,

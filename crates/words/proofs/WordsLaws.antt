@@ -4,14 +4,14 @@
 -- Assumes nothing.
 use mathlib.Core.Bool.{Bool, true, false, cond}
 use mathlib.Core.List.{List, _++_}
-use mathlib.Core.Path.{_≡_, refl, sym, ap, ap₂, _∙_}
+use mathlib.Core.Path.{_≡_, refl, ap, ap₂, _∙_}
 use Prim.Native.Nat.{ℕ, _+_, _*_, _≤_, _<_}
 use native.Mathlib.Omega.{arith}
-use borrow.Author.Tests.{le-leb, lt-leb, leb-true, leb-false}
+use borrow.Author.Tests.{le-leb, lt-leb, leb-true}
 use lib.Dec.{leb}
 use lib.ListN.{length, take, drop, replicate, length-append}
 use lib.Seq.{take-all, take-at, drop-append-add, length-paste, paste}
-use Rattle.format.specs.Bits.{bits, bitsOf, fill, pack, AllBelow}
+use Rattle.format.specs.Bits.{bits, bitsOf, fill, AllBelow}
 use Rattle.facts.proofs.BitsLaws.{length-bits, length-pack, bitsOf-pack, allBelow-bits, allBelow-pack, fill-exact}
 use Rattle.words.specs.Words.{wordBytes, withWord, wordBits}
 

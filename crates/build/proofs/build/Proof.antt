@@ -7,11 +7,10 @@ use Rattle.build.proofs.finish.Reads as finish-reads
 use Rattle.build.proofs.load_base.Reads as load-base-reads
 use Rattle.build.proofs.plan.Reads as plan-reads
 use mathlib.Core.List.{List, _++_}
-use mathlib.Core.Path.{_≡_, sym, ap, ap₂, subst, _∙_}
-use Prim.Native.Nat.{ℕ, _≤_, _<_}
-use native.Mathlib.Omega.{arith}
+use mathlib.Core.Path.{_≡_, subst}
+use Prim.Native.Nat.{ℕ}
 use lib.ListN.{length, drop, take}
-use Rattle.format.specs.Answer.{Answer, first}
+use Rattle.format.specs.Answer.{Answer}
 use Rattle.format.specs.Build.{build}
 use Rattle.format.specs.Normal.{normalPage}
 use Rattle.format.specs.Refusals.{refusalNumber}

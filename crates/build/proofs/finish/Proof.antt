@@ -6,8 +6,8 @@ use Rattle.build.proofs.finish.Lts as lts
 use Rattle.builder.proofs.page.write_page_over.Reads as write-page-over-reads
 use Rattle.bytes.proofs.copy.Reads as copy-reads
 use mathlib.Core.List.{List, _++_}
-use mathlib.Core.Path.{_≡_, sym, ap, ap₂, subst, _∙_}
-use Prim.Native.Nat.{ℕ, _-_, _≤_, _<_}
+use mathlib.Core.Path.{_≡_, ap, ap₂, _∙_}
+use Prim.Native.Nat.{ℕ, _-_, _≤_}
 use native.Mathlib.Omega.{arith}
 use lib.ListN.{length, drop, length-take, take}
 use lib.Seq.{take-all}

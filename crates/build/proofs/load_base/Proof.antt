@@ -4,8 +4,6 @@ use Rattle.build.proofs.load_base.Tie as tie
 use Rattle.build.proofs.load_base.Reads as reads
 use Rattle.build.proofs.load_base.Lts as lts
 use Rattle.node.proofs.reader.load_page.Reads as load-page-reads
-use mathlib.Core.List.{List}
-use mathlib.Core.Path.{_≡_}
 use native.Mathlib.Omega.{arith}
 use Rattle.facts.proofs.BitsLaws.{at-below}
 use Rattle.build.proofs.LoadLaws.{no-base, base-known}

@@ -7,9 +7,8 @@ use Rattle.branch_ops.proofs.choice.choose.Reads as choose-reads
 use Rattle.edits.proofs.apply.edit_rows.Reads as edit-rows-reads
 use Rattle.undo.proofs.write_undo.Reads as write-undo-reads
 use mathlib.Core.List.{List}
-use mathlib.Core.Path.{_≡_, sym, ap, ap₂, subst, _∙_}
+use mathlib.Core.Path.{_≡_, sym, ap, subst, _∙_}
 use Prim.Native.Nat.{ℕ, _≤_, _<_}
-use native.Mathlib.Omega.{arith}
 use lib.ListN.{length}
 use Rattle.format.specs.Answer.{Answer, first}
 use Rattle.format.specs.Normal.{keys}

@@ -2,11 +2,11 @@
 -- Assumes nothing.
 use mathlib.Core.List.{List}
 use mathlib.Core.Path.{_≡_, ap}
-use Prim.Native.Nat.{ℕ, _+_, _*_, _≤_}
+use Prim.Native.Nat.{ℕ, _+_, _*_}
 use native.Mathlib.Omega.{arith}
-use lib.ListN.{length, take, drop, getD}
+use lib.ListN.{take, drop, getD}
 use Rattle.format.specs.Bits.{unle}
-use Rattle.numbers.proofs.LittleLaws.{byte-past, unle-two, unle-four}
+use Rattle.numbers.proofs.LittleLaws.{unle-two, unle-four}
 use borrow.Author.Needs.{needs}
 use Rattle.numbers.proofs.le_four.Statement.{statement}
 use Rattle.numbers.proofs.le_four.Tie as tie

@@ -2,10 +2,10 @@
 -- spell 0.
 -- Assumes nothing.
 use mathlib.Core.List.{List}
-use mathlib.Core.Path.{_≡_, ap}
+use mathlib.Core.Path.{_≡_}
 use Prim.Native.Nat.{ℕ, _+_, _*_, _≤_}
 use native.Mathlib.Omega.{arith}
-use lib.ListN.{length, take, drop, getD}
+use lib.ListN.{length, take, drop}
 use Rattle.format.specs.Bits.{unle}
 use Rattle.numbers.proofs.LittleLaws.{byte-past, unle-two, unle-four}
 use borrow.Author.Needs.{needs}

@@ -10,7 +10,6 @@ use mathlib.Core.List.{List}
 use mathlib.Core.Path.{_≡_, sym, ap, _∙_}
 use Prim.Native.Nat.{ℕ}
 use lib.ListN.{replicate}
-use Rattle.format.specs.Answer.{Answer}
 use Rattle.format.specs.Build.{build}
 use Rattle.format.specs.Refusals.{refusalNumber}
 use Rattle.format.specs.declared.refusal.Refusal.{Refusal}

@@ -10,9 +10,9 @@ use Rattle.node.proofs.reader.load_page.Reads as load-page-reads
 use Rattle.numbers.proofs.le_u32.Reads as le-u32-reads
 use mathlib.Core.Bool.{Bool, false, true}
 use mathlib.Core.List.{List}
-use mathlib.Core.Path.{_≡_, sym, ap, subst, _∙_}
-use Prim.Native.Nat.{ℕ, _^_, _<_}
-use lib.ListN.{length, drop, replicate, length-replicate, take}
+use mathlib.Core.Path.{_≡_, sym, ap, _∙_}
+use Prim.Native.Nat.{ℕ}
+use lib.ListN.{drop, replicate, length-replicate, take}
 use Rattle.format.specs.Answer.{Answer}
 use Rattle.format.specs.Bits.{unle}
 use Rattle.format.specs.Normal.{keys, pageUnder}
@@ -29,7 +29,7 @@ use Rattle.branch_ops.specs.declared.choice.Choice.{Choice}
 use Rattle.branch_ops.specs.declared.choice.Chosen.{Chosen}
 use Rattle.branch_ops.specs.declared.choice.Chosen.the-variants.{Taken, Refused as NotChosen}
 use Rattle.builder.specs.Writes.{Wrote}
-use Rattle.round_trip.specs.Trip.{isNormal, sameBytes}
+use Rattle.round_trip.specs.Trip.{isNormal}
 use Rattle.round_trip.proofs.TripLaws.{always-chosen, normal-same, not-normal, own-normal, sameBytes-is}
 
 module _ (base p : List ℕ) (x : Checked) (ex : checkedAnswer x ≡ checkPage base) where

@@ -1,7 +1,7 @@
 -- `sizes::body_size` meets its contract: what 6n leaves of 64 bits is compared with the bytes of the bits.
 -- Assumes nothing.
 use mathlib.Core.Path.{_≡_}
-use Prim.Native.Nat.{ℕ, _+_, _-_, _*_, _/_, _%_, _≤_, _<_}
+use Prim.Native.Nat.{ℕ, _+_, _-_, _*_, _/_, _≤_, _<_}
 use native.Mathlib.Omega.{arith}
 use Rattle.format.specs.Answer.{Answer}
 use Rattle.format.specs.Bits.{bytesFor}

@@ -6,9 +6,9 @@ use Prim.Native.Nat.{ℕ, zero, suc}
 use native.Mathlib.Omega.{arith}
 use lib.Dec.{leb}
 use Rattle.format.specs.Answer.{Answer, afterwards, first, refuse, refusalOf, unless}
-use Rattle.format.specs.Bits.{bitsOf, fill, pack}
+use Rattle.format.specs.Bits.{bitsOf}
 use Rattle.format.specs.Key.{IsKey}
-use Rattle.format.specs.Page.{Entry, count, entryOf, keyOf, pageTests, readEntry}
+use Rattle.format.specs.Page.{Entry, count, entryOf, pageTests, readEntry}
 use Rattle.format.specs.Refusals.{refusalNumber}
 use Rattle.format.specs.declared.refusal.Refusal.{Refusal}
 use Rattle.facts.proofs.BitsLaws.{bitsOf-pack, fill-exact}

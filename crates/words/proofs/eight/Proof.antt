@@ -6,7 +6,7 @@ use Prim.Native.Nat.{ℕ, _+_, _*_, _^_, _<_}
 use native.Mathlib.Omega.{arith}
 use lib.ListN.{drop}
 use Rattle.format.specs.Bits.{bits, bitsOf, fill}
-use Rattle.words.proofs.WindowLaws.{Spells, spells-cat}
+use Rattle.words.proofs.WindowLaws.{spells-cat}
 use borrow.Author.Needs.{needs}
 use Rattle.words.proofs.eight.Statement.{statement}
 use Rattle.words.proofs.eight.Tie as tie

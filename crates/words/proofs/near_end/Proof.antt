@@ -7,7 +7,7 @@ use Prim.Native.Nat.{ℕ, _+_, _-_, _*_, _^_, _≤_, _<_}
 use native.Mathlib.Omega.{arith}
 use mir.Syntax.{w64}
 use mir.Val.{Fits}
-use lib.ListN.{getD, drop}
+use lib.ListN.{drop}
 use lib.Pow.{pow-mono}
 use Rattle.format.specs.Bits.{bits, bitsOf, fill}
 use Rattle.words.proofs.WindowLaws.{Spells, spells-none, spells-more}

@@ -2,11 +2,11 @@
 -- Assumes nothing.
 use mathlib.Core.List.{List, _++_, append-assoc}
 use mathlib.Core.Path.{_≡_, sym, ap, ap₂, _∙_}
-use Prim.Native.Nat.{ℕ, _+_, _-_, _/_, _%_, _^_, _≤_, _<_}
+use Prim.Native.Nat.{ℕ, _+_, _-_, _/_, _≤_, _<_}
 use native.Mathlib.Omega.{arith}
 use lib.ListN.{length, take, drop, length-append}
 use lib.Seq.{take-at, drop-at, drop-drop, length-take-le}
-use Rattle.format.specs.Bits.{bits, bitsOf, fill, pack, AllBelow}
+use Rattle.format.specs.Bits.{bits, bitsOf, pack, AllBelow}
 use Rattle.facts.proofs.BitsLaws.{
   allBelow-append,
   allBelow-bits,

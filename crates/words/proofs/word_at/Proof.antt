@@ -9,7 +9,7 @@ use Rattle.words.proofs.eight.Reads as eight-reads
 use Rattle.numbers.proofs.over.Reads as over-reads
 use mathlib.Core.List.{List}
 use mathlib.Core.Path.{_≡_, sym, _∙_}
-use Prim.Native.Nat.{ℕ, _+_, _-_, _*_, _≤_, _<_}
+use Prim.Native.Nat.{ℕ, _-_, _*_, _≤_, _<_}
 use native.Mathlib.Omega.{arith}
 use lib.ListN.{length, drop}
 use Rattle.format.specs.Bits.{bits, bitsOf, fill}

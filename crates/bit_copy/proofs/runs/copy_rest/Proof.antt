@@ -8,7 +8,7 @@ use Rattle.bit_copy.proofs.runs.copy_rest.Lts as lts
 use Rattle.bit_copy.proofs.runs.copy_part.Reads as copy-part-reads
 use Rattle.bit_copy.proofs.runs.copy_words.Reads as copy-words-reads
 use mathlib.Core.List.{List}
-use Prim.Native.Nat.{ℕ, _+_, _-_, _*_, _/_, _%_, _≤_, _<_}
+use Prim.Native.Nat.{ℕ, _+_, _-_, _*_, _/_, _≤_, _<_}
 use native.Mathlib.Omega.{arith}
 use lib.ListN.{length}
 use Rattle.bit_copy.specs.Runs.{Moved}

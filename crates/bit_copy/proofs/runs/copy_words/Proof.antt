@@ -14,7 +14,6 @@ use native.Mathlib.Omega.{arith}
 use lib.ListN.{length}
 use Rattle.format.specs.Bits.{bits}
 use Rattle.words.specs.Words.{withWord, windowBits}
-use Rattle.words.proofs.WordsLaws.{length-withWord}
 use Rattle.bit_copy.specs.Runs.{Moved}
 use Rattle.bit_copy.proofs.RunLaws.{moved-none, moved-add}
 use Rattle.bit_copy.proofs.WordLaws.{moved-word}

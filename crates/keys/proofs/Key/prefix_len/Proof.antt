@@ -9,7 +9,6 @@ use mir.Syntax.{w64}
 use mir.Val.{Fits}
 use lib.Bits.{bitXor}
 use lib.Count.{leadingZeros, leading-le}
-use lib.ListN.{length}
 use Rattle.format.specs.Bits.{bits}
 use Rattle.format.specs.Key.{sharedBits}
 use Rattle.facts.proofs.BitsLaws.{length-bits}

@@ -2,11 +2,11 @@
 -- bits.
 -- Assumes nothing.
 use mathlib.Core.List.{List, [], _++_, append-nil}
-use mathlib.Core.Path.{_≡_, refl, sym, ap, ap₂, _∙_}
+use mathlib.Core.Path.{_≡_, refl, ap, ap₂, _∙_}
 use Prim.Native.Nat.{ℕ, _≤_}
 use native.Mathlib.Omega.{arith}
 use lib.ListN.{length, drop, replicate, length-append, length-drop, drop-of-length-le}
-use Rattle.format.specs.Bits.{bits, bitsOf, pack, AllBelow}
+use Rattle.format.specs.Bits.{bitsOf, pack, AllBelow}
 use Rattle.facts.proofs.BitsLaws.{packed, bitsOf-append, allBelow-append}
 use Rattle.keys.specs.declared.Key.{Key}
 use Rattle.keys.specs.Keys.{keyBits}

@@ -7,7 +7,7 @@ use Prim.Native.Nat.{ℕ, suc, _-_, _≤_, _<_}
 use native.Mathlib.Omega.{arith}
 use Rattle.format.specs.Answer.{Answer, afterwards}
 use Rattle.format.specs.Bits.{pack}
-use Rattle.format.specs.Page.{Entry, checkPage, count, entryOf, keyOf, pageRefusal, pointerOf, readEntry}
+use Rattle.format.specs.Page.{Entry, checkPage, entryOf, keyOf, pageRefusal, pointerOf, readEntry}
 use Rattle.format.specs.Refusals.{refusalNumber}
 use Rattle.format.specs.declared.refusal.Refusal.{Refusal}
 use Rattle.facts.proofs.AcceptedLaws.{

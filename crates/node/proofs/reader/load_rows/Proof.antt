@@ -9,7 +9,7 @@ use Prim.Native.Nat.{ℕ, _+_, _-_, _≤_, _<_}
 use native.Mathlib.Omega.{arith}
 use lib.Dec.{eqb}
 use Rattle.format.specs.Key.{below}
-use Rattle.format.specs.Page.{Entry, count, each, endOf, entries, entryOf, keyOf, pointerOf, startOf}
+use Rattle.format.specs.Page.{each, entries, entryOf, keyOf, pointerOf, startOf}
 use Rattle.keys.specs.declared.Key.{Key}
 use Rattle.keys.specs.Keys.{keyBits}
 use Rattle.rows.specs.Rows.{withRow, withRows}

@@ -1,7 +1,7 @@
 -- `node::reader::prefix` meets its contract: the prefix begins behind the end offsets.
 -- Assumes nothing.
 use mathlib.Core.List.{List, _++_}
-use mathlib.Core.Path.{_≡_, sym, ap, ap₂, _∙_}
+use mathlib.Core.Path.{_≡_, ap, ap₂, _∙_}
 use Prim.Native.Nat.{ℕ, _+_, _*_}
 use lib.ListN.{take, drop}
 use Rattle.format.specs.Bits.{bitsOf, fill}
