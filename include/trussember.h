@@ -49,7 +49,8 @@ trussember_entry_read trussember_entry(const uint8_t *page, size_t page_len, siz
 
 /* Builds a page from a base and an edit record under a page number, and the record that undoes
  * it: n, m, q and bits of the new page, and the undo record's length, behind which the undo
- * buffer keeps its content; or a refusal from 1 to 15. A base of length 0 means no base. */
+ * buffer keeps its content; or a refusal from 1 to 15. A base of length 0 means no base. It
+ * takes some 91 KB of stack. */
 trussember_built trussember_build(const uint8_t *base, size_t base_len, const uint8_t *record,
                                   size_t record_len, uint32_t number, uint8_t *page,
                                   size_t page_len, uint8_t *undo, size_t undo_len);

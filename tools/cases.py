@@ -20,9 +20,8 @@ HEAD = """\
 -- Cases of an independent model of document 01, computed from the definitions. Written by tools/cases.py: change that, not this.
 -- Each says what an operation answers, and what lent memory holds afterwards. Line numbers are those of the vectors' file.
 -- Assumes nothing.
-use mathlib.Core.List.{List, [], _∷_, _++_}
+use mathlib.Core.List.{[], _++_}
 use mathlib.Core.Path.{_≡_, refl}
-use Prim.Native.Nat.{ℕ}
 use lib.ListN.{replicate}
 use Rattle.format.specs.Bits.{bitsOf}
 use Rattle.format.specs.Key.{separatorLength, sharedBits}

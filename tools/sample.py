@@ -6,7 +6,7 @@
 
 VECTORS is the file of outside cases (a case a line, tabs between fields: the operation, its arguments, `=>`, the answer,
 all lent memory afterwards); they come from an independent model of document 01. Of each operation the MOST smallest cases
-are taken; of pages, which take a check and an entry reading together, PAGES of each answer of the check. Where the vectors
+are taken; of pages, which take a check and an entry reading together, PAGES of each pair of answers. Where the vectors
 do not show a key that is lent for the answer, it is lent with OUT in it.
 
 The sample, numbers little-endian: how many cases, 4 bytes; then each case: the operation's number, 1 byte, how many bytes
@@ -23,6 +23,7 @@ refusal's number, 0 for none, and lent memory afterwards:
     8  stored    first  m  others  q  refusal  size
     9  page      page  refusal  number  n  m  q  bits  index  out  refusal  pointer  out
    10  build     base  record  number  page_length  page_byte  undo  refusal  n  m  q  bits  undo_length  page  undo
+   11  note      text, which is passed over: where the cases come from
 
 The page that is lent to a build holds one byte all over; afterwards it stands here where the build was accepted.
 """
@@ -34,6 +35,7 @@ PAGES = 6
 OUT = bytes(range(1, 33))
 OPERATIONS = {"sep_len": 1, "shared": 2, "separate": 3, "copy": 4, "rebuild": 5, "body": 6, "whole": 7, "stored": 8, "page": 9,
               "build": 10}
+NOTE = b"Cases of an independent model of document 01, chosen by tools/sample.py. "
 SAMPLE = os.path.join(os.path.dirname(os.path.abspath(__file__)), "..", "crates", "replayed", "data", "cases")
 
 
@@ -116,8 +118,9 @@ def sample(path):
         most = PAGES if op == "page" else MOST
         taken += [(at, OPERATIONS[op], body) for _, at, body in sorted(group)[:most]]
     taken.sort()
-    out = [len(taken).to_bytes(4, "little")]
-    for _, op, body in taken:
+    note = len(NOTE).to_bytes(4, "little") + NOTE
+    out = [(len(taken) + 1).to_bytes(4, "little")]
+    for _, op, body in [(0, 11, note)] + taken:
         out += [bytes([op]), len(body).to_bytes(4, "little"), body]
     return len(taken), b"".join(out)
 

@@ -19,7 +19,7 @@ int mprotect(void *memory, size_t len, int protection);
 void exit(int status);
 #define PROT_NONE 0
 
-/* A multiple of every size that a page of memory has on the machines at hand. */
+/* A multiple of every size that a page of memory has on such machines. */
 #define GUARD (1 << 16)
 
 /* The call at hand, and the ends of the memory for its slices. */

@@ -11,7 +11,7 @@ ghost use Rattle.bit_copy.specs.Calls.{Copied};
 
 // Whether `len` bits from the bit `at` on lie inside `size` bytes.
 pub fn lies_inside(size: usize, at: usize, len: usize) -> bool
-    ensures { λ r. ⌜ r ≡ inside size at len ⌝ }
+    ensures answer { λ r. ⌜ r ≡ inside size at len ⌝ }
 {
     if len == 0 {
         return true;

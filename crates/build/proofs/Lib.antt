@@ -3,3 +3,4 @@ mod LoadLaws
 mod SourceLaws
 mod PlanLaws
 mod BuiltLaws
+pub mod UniqueLaws

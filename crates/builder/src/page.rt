@@ -192,7 +192,7 @@ fn put_page(
     fields::put_header(out, number, n, m, q);
     let a = BranchNodeBuilder::HEADER_SIZE + 2 * n;
     let e = BranchNodeBuilder::PAGE_SIZE - 4 * n;
-    fields::put_offsets(&mut out[10..a], t, n, m, q);
+    fields::put_offsets(&mut out[BranchNodeBuilder::HEADER_SIZE..a], t, n, m, q);
     put_bits(&mut out[a..e], base, bn, bm, t, n, m, q);
     fields::put_pointers(&mut out[e..], t, n);
 }

@@ -159,18 +159,6 @@ module _ (x y : ℕ) (xs ys : List ℕ) where
   unfolding sharedBits
   sharedBits-stop d = rw (ne-eqb x y d)
 
-pub sharedBits-symmetric : (a b : List ℕ) → sharedBits a b ≡ sharedBits b a
-unfolding sharedBits
-sharedBits-symmetric [] [] = refl
-sharedBits-symmetric [] (y ∷ ys) = refl
-sharedBits-symmetric (x ∷ xs) [] = refl
-sharedBits-symmetric (x ∷ xs) (y ∷ ys) = go (eqb x y) refl (sharedBits-symmetric xs ys)
-  where
-    go : (t : Bool) → eqb x y ≡ t → sharedBits xs ys ≡ sharedBits ys xs
-        → sharedBits (x ∷ xs) (y ∷ ys) ≡ sharedBits (y ∷ ys) (x ∷ xs)
-    go true q ih = sharedBits-more x y xs ys (eqb-true x y q) ∙ ap suc ih ∙ sym (sharedBits-more y x ys xs (sym (eqb-true x y q)))
-    go false q ih = sharedBits-stop x y xs ys (eqb-false x y q) ∙ sym (sharedBits-stop y x ys xs (λ e. eqb-false x y q (sym e)))
-
 pub sharedBits-same : (a : List ℕ) → sharedBits a a ≡ length a
 unfolding sharedBits
 sharedBits-same [] = refl

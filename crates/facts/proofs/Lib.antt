@@ -1,5 +1,6 @@
 -- Laws of the definitions of `format`, each stated once. Read in this order.
 pub mod AnswerLaws
+pub mod RefusalLaws
 pub mod BitsLaws
 pub mod KeyLaws
 pub mod RangesLaws

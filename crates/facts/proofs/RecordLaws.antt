@@ -17,7 +17,7 @@ use Rattle.format.specs.Bits.{AllBelow, bits, bitsOf, bytesFor, pack, value}
 use Rattle.format.specs.Edit.{AllWellFormed, Edit, WellFormed, andThen, editBits, editOf, editsBits, fieldBits, padding, readEdits, readRecord, recordOf}
 use Rattle.format.specs.Edit.Edit.{Insert, Keep, Update}
 use Rattle.facts.proofs.AnswerLaws.{and-left, and-right, or-left, or-right}
-use Rattle.facts.proofs.BitsLaws.{allBelow-append, allBelow-bits, allBelow-bitsOf, allBelow-drop, allBelow-take, bits-value, bitsOf-pack, bytesFor-exact, bytesFor-holds, bytesFor-slack, fill-short, length-bits, length-bitsOf, length-pack, pack-bitsOf, pack-zeros, value-lt, value-of-bits, value-zero, value-zeros}
+use Rattle.facts.proofs.BitsLaws.{allBelow-pack, allBelow-append, allBelow-bits, allBelow-bitsOf, allBelow-drop, allBelow-take, bits-value, bitsOf-pack, bytesFor-exact, bytesFor-holds, bytesFor-slack, fill-short, length-bits, length-bitsOf, length-pack, pack-bitsOf, pack-zeros, value-lt, value-of-bits, value-zero, value-zeros}
 
 -- ---- the record's length
 
@@ -90,6 +90,10 @@ allBelow-editsBits (e ∷ es) w = allBelow-append 2 (editBits e) (editsBits es) 
 
 allBelow-headed : (es : List Edit) → AllWellFormed es → AllBelow 2 (headed es)
 allBelow-headed es w = allBelow-append 2 (bits 10 (length es)) (editsBits es) (allBelow-bits 10 (length es)) (allBelow-editsBits es w)
+
+pub allBelow-recordOf : (es : List Edit) → AllWellFormed es → AllBelow 256 (recordOf es)
+allBelow-recordOf es w =
+    subst (AllBelow 256) (sym (recordOf-pack es)) (allBelow-pack (bytesFor (length (headed es))) (headed es) (allBelow-headed es w))
 
 -- ---- an edit as its kind and its fields
 

@@ -191,11 +191,6 @@ storedLengths-plain zero q (k ∷ ks) (suc i) h l = storedLengths-plain zero q k
 storedLengths-plain (suc m) q (k ∷ ks) zero h l = absurd (not-suc-le-zero h)
 storedLengths-plain (suc m) q (k ∷ ks) (suc i) h l = storedLengths-plain m q ks i (le-of-suc-le-suc h) (le-of-suc-le-suc l)
 
-pub storedLengths-none : (q : ℕ) (ks : List (List ℕ)) → storedLengths 0 q ks ≡ map separatorLength ks
-unfolding storedLengths
-storedLengths-none q [] = refl
-storedLengths-none q (k ∷ ks) = ap (λ (l : List ℕ). separatorLength k ∷ l) (storedLengths-none q ks)
-
 pub sum-storedLengths : (m q : ℕ) (ks : List (List ℕ)) → m ≤ length ks → ((i : ℕ) → i < m → q ≤ separatorLength (getD ks i []))
     → sum (storedLengths m q ks) + m * q ≡ sum (map separatorLength ks)
 unfolding storedLengths sum

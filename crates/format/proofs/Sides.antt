@@ -1,11 +1,13 @@
 -- Both sides of the lines that document 01 draws, by computation; each of the refusals 1 to 19 is given at least
 -- once.
--- In order: `Pages` (1 to 8, 16), `Builds` (9 to 15), `Calls` (17 to 19).
+-- In order: `Pages` (1 to 8, 16), `Builds` (9 to 15), `Calls` (17 to 19); the number of each refusal.
 -- Not here: a full page of 108 entries, read and built, and the outside cases (crate `cases`).
 -- Assumes nothing.
-use mathlib.Core.List.{[], _∷_}
+use mathlib.Core.List.{[], _∷_, map}
 use mathlib.Core.Path.{_≡_, refl}
 use Rattle.format.specs.Answer.{Answer, refusalOf, afterwards, first}
+use Rattle.format.specs.Refusals.{refusalNumber}
+use Rattle.format.specs.declared.refusal.Refusal.the-variants.{PageLength, NoEntries, CompressedCount, PrefixLength, BodyTooLong, OffsetsFall, EntryBits, KeysNotAscending, OutputLength, MalformedRecord, EditOutside, NoEdits, NewKeysNotAscending, NoRoom, UndoTooShort, IndexPastEnd, NotBelow, RangeOutside, Unrepresentable}
 use Rattle.format.specs.Page.{pageRefusal, readEntry}
 use Rattle.format.specs.Sizes.{bodySize, wholeFromStored, storedFromWhole}
 use Rattle.format.specs.Ranges.{separate, bitCopy, rebuildKey}
@@ -135,7 +137,7 @@ pub record Builds : Type 0 where
   -- 15: an undo record of 43 bytes in 43 (above) and in 42; a refusal changes nothing, and behind the record nothing
   -- changes
   pub undo-42 : built (recordOf (Update 0 5 ∷ [])) 4096 42 ≡ record { answer = Answer.Refused 15; page = zeros 4096; undo = zeros 42 }
-  pub undo-45 : build (normalPage 7 two) (recordOf (Keep 0 2 ∷ [])) 8 (zeros 4096) (hex 6 0x010203040506)
+  pub undo-4-in-6 : build (normalPage 7 two) (recordOf (Keep 0 2 ∷ [])) 8 (zeros 4096) (hex 6 0x010203040506)
       ≡ record { answer = Answer.Value (record { n = 2; m = 2; q = 1; bits = 2; undo = 4 }); page = normalPage 8 two; undo = hex 6 0x006000020506 }
   -- the undo record: one run for what is kept, an Update at the position in the new page, an Insert for what is
   -- absent
@@ -174,7 +176,7 @@ builds =
       keys-rise = refl;
       room-4087 = refl;
       undo-42 = refl;
-      undo-45 = refl;
+      undo-4-in-6 = refl;
       undo-kept = refl;
       undo-updated = refl;
       undo-parted = refl;
@@ -245,3 +247,15 @@ calls =
       stored-m-1 = refl;
       stored-m-0 = refl;
     }
+
+-- ---- the refusals' numbers
+
+-- in document 01's order, from 1 on
+pub numbers : map refusalNumber
+    (PageLength ∷ NoEntries ∷ CompressedCount ∷ PrefixLength ∷ BodyTooLong
+    ∷ OffsetsFall ∷ EntryBits ∷ KeysNotAscending ∷ OutputLength ∷ MalformedRecord
+    ∷ EditOutside ∷ NoEdits ∷ NewKeysNotAscending ∷ NoRoom ∷ UndoTooShort
+    ∷ IndexPastEnd ∷ NotBelow ∷ RangeOutside ∷ Unrepresentable
+    ∷ [])
+    ≡ 1 ∷ 2 ∷ 3 ∷ 4 ∷ 5 ∷ 6 ∷ 7 ∷ 8 ∷ 9 ∷ 10 ∷ 11 ∷ 12 ∷ 13 ∷ 14 ∷ 15 ∷ 16 ∷ 17 ∷ 18 ∷ 19 ∷ []
+numbers = refl

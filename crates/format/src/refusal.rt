@@ -1,7 +1,5 @@
 // The refusals of document 01, a case for each, named by its cause. Its number: `refusalNumber` of
 // specs/Refusals.antt.
-ghost use mathlib.Core.Path.{_≡_};
-ghost use Rattle.format.specs.Refusals.{refusalNumber};
 
 pub enum Refusal {
     // 1: the page's length is not 4,096.
@@ -48,33 +46,4 @@ pub enum Refusal {
 pub enum Outcome {
     Done,
     Refused(Refusal),
-}
-
-impl Refusal {
-    // Document 01's number.
-    pub fn number(self) -> u64
-        ensures answer { λ r. ⌜ r ≡ refusalNumber self ⌝ }
-    {
-        match self {
-            Refusal::PageLength => 1,
-            Refusal::NoEntries => 2,
-            Refusal::CompressedCount => 3,
-            Refusal::PrefixLength => 4,
-            Refusal::BodyTooLong => 5,
-            Refusal::OffsetsFall => 6,
-            Refusal::EntryBits => 7,
-            Refusal::KeysNotAscending => 8,
-            Refusal::OutputLength => 9,
-            Refusal::MalformedRecord => 10,
-            Refusal::EditOutside => 11,
-            Refusal::NoEdits => 12,
-            Refusal::NewKeysNotAscending => 13,
-            Refusal::NoRoom => 14,
-            Refusal::UndoTooShort => 15,
-            Refusal::IndexPastEnd => 16,
-            Refusal::NotBelow => 17,
-            Refusal::RangeOutside => 18,
-            Refusal::Unrepresentable => 19,
-        }
-    }
 }

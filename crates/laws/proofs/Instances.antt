@@ -1,33 +1,35 @@
 -- Closed instances of the theorems, numbered as they are: their hypotheses can be met. What is not a theorem's
 -- conclusion is computed.
--- In order: the entries and pages that serve; words; 1 to 11.
+-- In order: the entries and pages that serve; words; 1 to 12.
 -- Not here: the theorems (`Proved`); document 01's table (`Rattle.format.proofs.Table`).
 -- Assumes nothing.
-use mathlib.Core.Bool.{true, false}
+use mathlib.Core.Bool.{true, false, not}
 use mathlib.Core.List.{List, [], _∷_, _++_, map}
 use mathlib.Core.Logic.{_≢_, inr}
-use mathlib.Core.Option.{some}
-use mathlib.Core.Path.{_≡_, refl}
+use mathlib.Core.Option.{Option, some}
+use mathlib.Core.Path.{_≡_, ap, refl, _∙_}
 use Prim.Native.Nat.{ℕ, _+_, _-_, _*_, _≤_, _<_, min}
 use native.Mathlib.Omega.{arith}
-use lib.Dec.{leb}
+use lib.Dec.{eqb, leb}
 use lib.ListN.{drop, getD, length, length-append, length-replicate, take}
 use Rattle.format.specs.Bits.{AllBelow, bits, value}
 use Rattle.format.specs.Key.{IsKey, below, separatorLength, sharedBits}
-use Rattle.format.specs.Answer.{Answer, FirstHolds, NoneHolds, refuse}
+use Rattle.format.specs.Answer.{Answer, FirstHolds, NoneHolds, first, refuse}
 use Rattle.format.specs.Page.{Entry, Sound, bodyBytes, checkPage, count, each, entries, pageNumber, pageRefusal, pageTests, prefixLength, startOf}
 use Rattle.format.specs.Sizes.{storedFromWhole, wholeFromStored}
 use Rattle.format.specs.Ranges.{bitCopy, separate}
 use Rattle.format.specs.Normal.{Permitted, bitsUnder, candidate, choice, fits, keys, normalPage, pageUnder, storedLengths, sum}
-use Rattle.format.specs.Edit.{Edit, anyOutside, apply, ascending, readRecord, recordOf}
+use Rattle.format.specs.Edit.{AllWellFormed, Edit, anyOutside, apply, ascending, readRecord, recordOf}
 use Rattle.format.specs.Edit.Edit.{Insert, Keep, Update}
 use Rattle.format.specs.Undo.{undoEdits}
-use Rattle.format.specs.Build.{Numbers, build, buildTests, refused}
+use Rattle.format.specs.Build.{Built, Numbers, build, buildTests, editTests, editsOf, malformed, refused}
 use Rattle.facts.proofs.BitsLaws.{allBelow-append, allBelow-bits, allBelow-replicate, length-bits}
 use Rattle.facts.proofs.KeyLaws.{isKey-bitsOf}
 use Rattle.facts.proofs.EntryLaws.{sound-append, sound-each}
 use Rattle.facts.proofs.NormalLaws.{allBelow-pageUnder}
-use Rattle.format.proofs.Samples.{full, hex, key, lastKey, long, two, zeros}
+use Rattle.facts.proofs.RecordLaws.{allBelow-recordOf}
+use Rattle.facts.proofs.BuildLaws.{build-refuses, refused-answer}
+use Rattle.format.proofs.Samples.{full, hex, inserts, key, lastKey, long, two, zeros}
 use Rattle.laws.specs.Words.{Between, CopiedFrom, LengthOf, SharedBy}
 use Rattle.laws.specs.Theorems.{Accepts, Gives, Lent, Once, ReadsAs, Rising, again}
 use Rattle.laws.proofs.Proved as theorem
@@ -347,3 +349,40 @@ first-undo = theorem.no-base (recordOf (Insert (key 0x80) 5 ∷ [])) 8 page buff
 
 two-no-edits : build (normalPage 7 two) (0 ∷ 0 ∷ []) 8 page buffer ≡ refused 12 page buffer
 two-no-edits = theorem.no-edits (normalPage 7 two) 8 page buffer (two-read .accepted) (lent .size)
+
+-- ---- 12. What a build gives
+
+two-built-read : ReadsAs (build (normalPage 7 two) edit 8 page buffer .page) 8 (apply (entries (normalPage 7 two)) (theorem.built-read (normalPage 7 two) edit 8 page buffer numbers (two-read .bytes) edit-bytes (omega arith) two-built .0))
+two-built-read = theorem.built-read (normalPage 7 two) edit 8 page buffer numbers (two-read .bytes) edit-bytes (omega arith) two-built .3
+
+two-built-fewest : (m q : ℕ) → Permitted (keys (apply (entries (normalPage 7 two)) (theorem.built-fewest (normalPage 7 two) edit 8 page buffer numbers (two-read .bytes) edit-bytes two-built .0))) m q
+    → numbers .bits ≤ bitsUnder (keys (apply (entries (normalPage 7 two)) (theorem.built-fewest (normalPage 7 two) edit 8 page buffer numbers (two-read .bytes) edit-bytes two-built .0))) m q
+two-built-fewest = theorem.built-fewest (normalPage 7 two) edit 8 page buffer numbers (two-read .bytes) edit-bytes two-built .2
+
+inserts-formed : (es : List Entry) → Sound es → AllWellFormed (inserts es)
+unfolding Sound inserts
+inserts-formed [] s = tt
+inserts-formed (e ∷ es) s = ((s .0, s .1), inserts-formed es (s .2))
+
+no-bytes : AllBelow 256 []
+unfolding AllBelow
+no-bytes = tt
+
+-- the 108 entries above, inserted
+full-formed : AllWellFormed (inserts (full 239))
+full-formed = inserts-formed (full 239) full-sound
+
+full-read : readRecord (recordOf (inserts (full 239))) ≡ some (inserts (full 239))
+unfolding inserts full
+full-read = theorem.record-back (inserts (full 239)) full-formed (omega arith)
+
+full-first : first (buildTests [] (recordOf (inserts (full 239))) page buffer) ≡ 14
+unfolding buildTests first inserts full
+full-first =
+    ap (λ (o : Option (List Edit)). first (refuse 9 (not (eqb (length page) 4096)) ∷ refuse 10 (malformed o) ∷ editTests (entries []) (editsOf o) (length buffer))) full-read ∙ refl
+
+full-refused : build [] (recordOf (inserts (full 239))) 8 page buffer .answer ≡ Answer.Refused 14
+full-refused = ap (λ (x : Built). x .answer) (build-refuses [] (recordOf (inserts (full 239))) 8 page buffer 13 full-first) ∙ refused-answer 14 page buffer
+
+full-unbuilt : Rising (apply (entries []) (theorem.built-no-room [] (recordOf (inserts (full 239))) 8 page buffer no-bytes (allBelow-recordOf (inserts (full 239)) full-formed) full-refused .0))
+full-unbuilt = theorem.built-no-room [] (recordOf (inserts (full 239))) 8 page buffer no-bytes (allBelow-recordOf (inserts (full 239)) full-formed) full-refused .2

@@ -16,7 +16,7 @@ use Rattle.format.specs.Answer.{Answer, NoneHolds, Test, refuse}
 use Rattle.format.specs.Page.{Entry, count, entries, entryOf, pageTests, pageRefusal, readEntry}
 use Rattle.format.specs.Sizes.{wholeFromStored}
 use Rattle.format.specs.Ranges.{bitsCopied, inside}
-use Rattle.format.specs.Normal.{sum, Permitted, storedLengths, keys, normalPage}
+use Rattle.format.specs.Normal.{sum, Permitted, storedLengths, bitsUnder, choice, keys, normalPage}
 use Rattle.format.specs.Edit.{Edit, noEntry, apply, ascending}
 use Rattle.format.specs.Undo.{undoEdits}
 use Rattle.format.specs.Build.{Numbers, Built, buildTests, build}
@@ -31,9 +31,10 @@ use Rattle.facts.proofs.NormalLaws.{length-normalPage, allBelow-normalPage, pag
 use Rattle.facts.proofs.RecordLaws.{AcceptedRecord, readRecord-recordOf, readRecord-accepted}
 use Rattle.facts.proofs.UndoLaws.{apply-undoEdits, anyOutside-undoEdits, length-undoEdits, undoEdits-apart, undoEdits-some}
 use Rattle.facts.proofs.BuildLaws.{Acceptable, Done, NotDone, noneHolds-buildTests, acceptable-buildTests, build-accepts, build-acceptable, accepted-answer, build-done, build-refused, build-firstHolds, build-same-entries, build-no-edits, refused-answer}
-use Rattle.laws.proofs.BackLaws.{Held, held-base, build-back, build-back-normal, build-forth, build-undo-bound, build-no-base}
+use Rattle.laws.proofs.BackLaws.{Held, held-base, held-new, build-back, build-back-normal, build-forth, build-undo-bound, build-no-base}
+use Rattle.laws.proofs.RoomLaws.{Full, no-room}
 use Rattle.laws.specs.Words.{OrderWords, LengthWords, SharedWords, SeparateWords, Between, CopyWords, CopiedFrom}
-use Rattle.laws.specs.Theorems.{Rising, ReadBack, CheckedBack, Fewest, Tie, PermittedChoice, Room, LaterLonger, SumFormula, StoredFromWhole, WholeFromStored, BaseFits, BaseBits, RecordBack, RecordOwn, UndoApplies, UndoInside, UndoCount, UndoRuns, UndoBound, FirstPageRefusal, FirstEntryRefusal, FirstRefusal, AcceptedExactly, Untouched, AcceptedBuild, Accepts, UndoKept, SameEntries, Back, BackNormal, Forth, NoBase, NoEdits}
+use Rattle.laws.specs.Theorems.{Rising, ReadBack, CheckedBack, Fewest, Tie, PermittedChoice, Room, LaterLonger, SumFormula, StoredFromWhole, WholeFromStored, BaseFits, BaseBits, RecordBack, RecordOwn, UndoApplies, UndoInside, UndoCount, UndoRuns, UndoBound, FirstPageRefusal, FirstEntryRefusal, FirstRefusal, AcceptedExactly, Untouched, AcceptedBuild, Accepts, UndoKept, SameEntries, Back, BackNormal, Forth, NoBase, NoEdits, ReadsAs, BuiltRead, BuiltFewest, BuiltNoRoom}
 
 -- ---- Words
 
@@ -269,3 +270,31 @@ no-base rec number page undo v e = build-no-base rec number page undo v e
 
 pub no-edits : NoEdits
 no-edits p number page undo ok size = build-no-edits p number page undo ok size
+
+-- ---- 12. What a build gives
+
+pub built-read : BuiltRead
+built-read base rec number page undo v b c small e =
+    let after : Built = build base rec number page undo in
+    let d : Done base rec number page undo v after = build-done base rec number page undo v e in
+    let new : List Entry = apply (entries base) (d .es) in
+    let h : Held new = held-new base rec page undo (d .es) b c (d .acceptable) in
+    let r : Rising new = record { one = h .one; sound = h .sound; rises = h .rising } in
+    let p : after .page ≡ normalPage number new = d .page-bytes ∙ ap (normalPage number) (d .new-entries) in
+    (d .es, d .acceptable .edits, r, subst (λ (x : List ℕ). ReadsAs x number new) (sym p) (read-back number new small r (h .fitting)))
+
+pub built-fewest : BuiltFewest
+built-fewest base rec number page undo v b c e =
+    let d : Done base rec number page undo v (build base rec number page undo) = build-done base rec number page undo v e in
+    let new : List Entry = apply (entries base) (d .es) in
+    let h : Held new = held-new base rec page undo (d .es) b c (d .acceptable) in
+    let r : Rising new = record { one = h .one; sound = h .sound; rises = h .rising } in
+    let s : v .bits ≡ choice (keys new) .bits =
+    ap (λ (x : Numbers). x .bits) (d .numbers) ∙ ap (λ (l : List Entry). choice (keys l) .bits) (d .new-entries) in
+    (d .es, d .acceptable .edits, λ m q p. subst (λ (k : ℕ). k ≤ bitsUnder (keys new) m q) (sym s) (fewest new r m q p))
+
+pub built-no-room : BuiltNoRoom
+built-no-room base rec number page undo b c e =
+    let found : (es : List Edit) × Full base rec es = no-room base rec number page undo b c e in
+    let f : Full base rec (found .0) = found .1 in
+    (found .0, f .edits, f .rising, room (apply (entries base) (found .0)) (f .rising) .0 (f .full))

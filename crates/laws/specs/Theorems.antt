@@ -11,6 +11,8 @@
 --      9  SameEntries                                   what a build depends on
 --     10  FirstPageRefusal FirstEntryRefusal FirstRefusal AcceptedExactly Untouched AcceptedBuild UndoKept
 --                                                       refusals and lent memory
+--     11  NoBase NoEdits                               no base
+--     12  BuiltRead BuiltFewest BuiltNoRoom            what a build gives, and when there is no room for it
 -- Assumes nothing.
 use mathlib.Core.Bool.{true, false}
 use mathlib.Core.List.{List, [], _∷_, _++_, map}
@@ -292,3 +294,35 @@ NoBase = (rec : List ℕ) (number : ℕ) (page undo : List ℕ) (v : Numbers)
 abbrev pub NoEdits : Type 0
 NoEdits = (p : List ℕ) (number : ℕ) (page undo : List ℕ) → pageRefusal p ≡ 0 → length page ≡ 4096
     → build p (0 ∷ 0 ∷ []) number page undo ≡ refused 12 page undo
+
+-- ---- 12. What a build gives
+
+-- The page of an accepted build reads as the entries that the edits make, which rise.
+abbrev pub BuiltRead : Type 0
+BuiltRead = (base rec : List ℕ) (number : ℕ) (page undo : List ℕ) (v : Numbers) → AllBelow 256 base → AllBelow 256 rec
+    → number < 2 ^ 32
+    → build base rec number page undo .answer ≡ Answer.Value v
+    → (es : List Edit)
+    × (readRecord rec ≡ some es)
+    × Rising (apply (entries base) es)
+    × ReadsAs (build base rec number page undo .page) number (apply (entries base) es)
+
+-- No permitted choice for these entries has fewer bits than an accepted build answers.
+abbrev pub BuiltFewest : Type 0
+BuiltFewest = (base rec : List ℕ) (number : ℕ) (page undo : List ℕ) (v : Numbers) → AllBelow 256 base → AllBelow 256 rec
+    → build base rec number page undo .answer ≡ Answer.Value v
+    → (es : List Edit)
+    × (readRecord rec ≡ some es)
+    × ((m q : ℕ) → Permitted (keys (apply (entries base) es)) m q → v .bits ≤ bitsUnder (keys (apply (entries base) es)) m q)
+
+-- A build is refused with 14 only where these entries rise and no permitted choice for them has body bytes of at most
+-- 4,086.
+abbrev pub BuiltNoRoom : Type 0
+BuiltNoRoom = (base rec : List ℕ) (number : ℕ) (page undo : List ℕ) → AllBelow 256 base → AllBelow 256 rec
+    → build base rec number page undo .answer ≡ Answer.Refused 14
+    → (es : List Edit)
+    × (readRecord rec ≡ some es)
+    × Rising (apply (entries base) es)
+    × ((m q : ℕ)
+    → Permitted (keys (apply (entries base) es)) m q
+    → 4086 < bodyBytes (length (apply (entries base) es)) q (sum (storedLengths m q (keys (apply (entries base) es)))))

@@ -2,3 +2,4 @@
 pub mod KeyLaws
 pub mod TestsLaws
 pub mod LoadedLaws
+pub mod UniqueLaws

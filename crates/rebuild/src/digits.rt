@@ -4,7 +4,7 @@ use libc::STDERR_FILENO;
 ghost use Prim.Native.Nat.{_<_};
 
 // Whether an argument is a page number, and which.
-pub struct Number {
+pub(crate) struct Number {
     pub is: bool,
     pub value: u32,
 }
@@ -88,7 +88,7 @@ fn read(i: usize, s: &[u8]) -> Number {
 }
 
 // The page number that argument i is; what is wrong with it goes to standard error.
-pub fn argument(i: usize) -> Number {
+pub(crate) fn argument(i: usize) -> Number {
     let mut text = io::buffer();
     let n = os::arg(i, &mut text);
     if os::errno() != 0 {

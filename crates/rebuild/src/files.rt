@@ -4,7 +4,7 @@ ghost use Prim.Native.Nat.{_≤_};
 ghost use lib.ListN.{length};
 
 // Whether a file was read, and how many bytes.
-pub struct Got {
+pub(crate) struct Got {
     pub is: bool,
     pub len: usize,
 }
@@ -56,7 +56,7 @@ fn is_name(n: usize) -> bool {
 }
 
 // Reads the file that argument i names to the start of buf, as far as that has room.
-pub fn read(i: usize, buf: &mut [u8]) -> Got
+pub(crate) fn read(i: usize, buf: &mut [u8]) -> Got
     ensures { λ r. ⌜ r .len ≤ length (now (buf .exit)) ⌝ }
 {
     let mut path = io::buffer();
@@ -86,7 +86,7 @@ fn write_path(path: &[u8], bytes: &[u8]) -> bool {
 }
 
 // Makes the file that argument i names hold these bytes, and answers whether it does.
-pub fn write(i: usize, bytes: &[u8]) -> bool {
+pub(crate) fn write(i: usize, bytes: &[u8]) -> bool {
     let mut path = io::buffer();
     let n = os::arg(i, &mut path);
     if !is_name(n) {
@@ -96,7 +96,7 @@ pub fn write(i: usize, bytes: &[u8]) -> bool {
 }
 
 // Whether two arguments are one name.
-pub fn same_names(i: usize, j: usize) -> bool {
+pub(crate) fn same_names(i: usize, j: usize) -> bool {
     let mut a = io::buffer();
     let mut b = io::buffer();
     let n = os::arg(i, &mut a);
@@ -105,7 +105,7 @@ pub fn same_names(i: usize, j: usize) -> bool {
 }
 
 // Writes argument i to standard error; for an empty one, that it is.
-pub fn name(i: usize) {
+pub(crate) fn name(i: usize) {
     let mut path = io::buffer();
     let n = os::arg(i, &mut path);
     if n == 0 {

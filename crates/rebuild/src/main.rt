@@ -28,7 +28,7 @@ enum Look {
 
 // The argument that names the file which a build's refusal is about: BASE for 1 to 8, else RECORD.
 fn blamed(why: Refusal) -> usize {
-    if why.number() < 9 { 2 } else { 3 }
+    if refusals::number(why) < 9 { 2 } else { 3 }
 }
 
 // Writes UNDO and PAGE, and says what was built.

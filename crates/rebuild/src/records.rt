@@ -47,7 +47,7 @@ fn lines(s: &[u8], n: usize) {
 }
 
 // A line for the count of edits, and one for each edit; or that the record is malformed.
-pub fn record(s: &[u8]) {
+pub(crate) fn record(s: &[u8]) {
     if !record::formed(s) {
         say::refused(2, Refusal::MalformedRecord);
         return;

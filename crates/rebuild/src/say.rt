@@ -6,13 +6,13 @@ use libc::STDERR_FILENO;
 use libc::STDOUT_FILENO;
 
 // A name and its number.
-pub fn field(name: &[u8], n: u64) {
+pub(crate) fn field(name: &[u8], n: u64) {
     io::write_all(STDOUT_FILENO, name);
     io::print_decimal(STDOUT_FILENO, n);
 }
 
 // A page's fields, without a line's end.
-pub fn page(number: u64, n: usize, m: usize, q: usize, bits: usize) {
+pub(crate) fn page(number: u64, n: usize, m: usize, q: usize, bits: usize) {
     field(b"number ", number);
     field(b", n ", n as u64);
     field(b", m ", m as u64);
@@ -21,7 +21,7 @@ pub fn page(number: u64, n: usize, m: usize, q: usize, bits: usize) {
 }
 
 // A line's end. Where standard output takes no more it is said, and false is the answer.
-pub fn end() -> bool {
+pub(crate) fn end() -> bool {
     if !io::write_all(STDOUT_FILENO, b"\n") {
         os::fail(b"standard output");
         return false;
@@ -30,7 +30,7 @@ pub fn end() -> bool {
 }
 
 // A key's 64 hexadecimal digits.
-pub fn key(k: Key) {
+pub(crate) fn key(k: Key) {
     io::print_hex(STDOUT_FILENO, k.a, 16);
     io::print_hex(STDOUT_FILENO, k.b, 16);
     io::print_hex(STDOUT_FILENO, k.c, 16);
@@ -77,10 +77,10 @@ fn reason(why: Refusal) -> bool {
 }
 
 // A refusal on standard error: the file that argument i names, the number and the words.
-pub fn refused(i: usize, why: Refusal) {
+pub(crate) fn refused(i: usize, why: Refusal) {
     files::name(i);
     io::write_all(STDERR_FILENO, b": refused with ");
-    io::print_decimal(STDERR_FILENO, why.number());
+    io::print_decimal(STDERR_FILENO, refusals::number(why));
     io::write_all(STDERR_FILENO, b": ");
     reason(why);
     io::write_all(STDERR_FILENO, b"\n");

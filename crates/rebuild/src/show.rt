@@ -47,7 +47,7 @@ fn lines(page: &[u8], h: Header) {
 }
 
 // A line for the header, and one for each entry; or why the page is refused.
-pub fn page(page: &[u8]) {
+pub(crate) fn page(page: &[u8]) {
     match reader::check(page) {
         Checked::Refused(why) => say::refused(2, why),
         Checked::Page(h) => {

@@ -6,12 +6,12 @@ use format::refusal::Outcome;
 fn number_of(r: Outcome) -> u64 {
     match r {
         Outcome::Done => 0,
-        Outcome::Refused(why) => why.number(),
+        Outcome::Refused(why) => refusals::number(why),
     }
 }
 
 // Fields: key, length.
-pub fn sep_len(s: &[u8]) -> bool {
+pub(crate) fn sep_len(s: &[u8]) -> bool {
     let mut key = [0u8; 32];
     if cases::load(s, 0, &mut key) != 32 {
         return false;
@@ -20,7 +20,7 @@ pub fn sep_len(s: &[u8]) -> bool {
 }
 
 // Fields: a, b, shared bits. They are counted bit by bit and by groups.
-pub fn shared(s: &[u8]) -> bool {
+pub(crate) fn shared(s: &[u8]) -> bool {
     let mut a = [0u8; 32];
     let mut b = [0u8; 32];
     if cases::load(s, 0, &mut a) != 32 {
@@ -37,7 +37,7 @@ pub fn shared(s: &[u8]) -> bool {
 }
 
 // Fields: a, b, out before, refusal, out afterwards.
-pub fn separate(s: &[u8]) -> bool {
+pub(crate) fn separate(s: &[u8]) -> bool {
     let mut a = [0u8; 32];
     let mut b = [0u8; 32];
     let mut out = [0u8; 32];
@@ -55,7 +55,7 @@ pub fn separate(s: &[u8]) -> bool {
 }
 
 // Fields: dst before, its start bit, src, its start bit, how many bits, refusal, dst afterwards.
-pub fn copy(s: &[u8]) -> bool {
+pub(crate) fn copy(s: &[u8]) -> bool {
     let mut room = [0u8; 256];
     copy_in(s, &mut room)
 }
@@ -81,7 +81,7 @@ fn copy_in(s: &[u8], room: &mut [u8]) -> bool {
 
 // Fields: prefix, its bits, separator, its start bit, its bits, out before, refusal, and out
 // afterwards.
-pub fn rebuild(s: &[u8]) -> bool {
+pub(crate) fn rebuild(s: &[u8]) -> bool {
     let mut out = [0u8; 32];
     cases::load(s, 5, &mut out);
     let prefix = cases::field(s, 0);

@@ -6,7 +6,7 @@ ghost use Prim.Native.Nat.{_≤_};
 // Fields: base, record, page number; the output page's length, and the byte that it held all over;
 // the undo buffer; refusal, n, m, q, bits and the undo record's length; the page afterwards, no bytes
 // where it is to be as it was; the undo buffer afterwards.
-pub fn build(s: &[u8]) -> bool {
+pub(crate) fn build(s: &[u8]) -> bool {
     let held = (cases::number(s, 4) % 256) as u8;
     let mut page = [held; 4096];
     let was = [held; 4096];
@@ -59,6 +59,6 @@ fn is_built(r: Built, s: &[u8]) -> bool {
                 && cases::number(s, 10) == v.bits as u64
                 && cases::number(s, 11) == v.undo as u64
         }
-        Built::Refused(why) => cases::number(s, 6) == why.number(),
+        Built::Refused(why) => cases::number(s, 6) == refusals::number(why),
     }
 }

@@ -5,13 +5,13 @@ ghost use Prim.Native.Nat.{_≤_};
 ghost use lib.ListN.{length};
 
 // The place of a field: the bytes from start up to end, where the next field's length stands.
-pub struct Part {
+pub(crate) struct Part {
     pub start: usize,
     pub end: usize,
 }
 
 // How many cases the file has, by its first bytes; none where it has not so many.
-pub fn how_many(fd: i32) -> u64 {
+pub(crate) fn how_many(fd: i32) -> u64 {
     let mut head = [0u8; 4];
     if io::read_full(fd, &mut head) != 4 {
         return 0;
@@ -20,7 +20,7 @@ pub fn how_many(fd: i32) -> u64 {
 }
 
 // A case that has been read: its operation, and how many bytes its fields have.
-pub struct Case {
+pub(crate) struct Case {
     pub op: usize,
     pub size: usize,
 }
@@ -35,7 +35,7 @@ fn opened(head: &[u8; 5]) -> Case {
 
 // Reads the next case, its fields to the start of buf; operation 0 and no fields where there is
 // none, or where buf has no room for them.
-pub fn read(fd: i32, buf: &mut [u8]) -> Case
+pub(crate) fn read(fd: i32, buf: &mut [u8]) -> Case
     ensures { λ r. ⌜ r .size ≤ length (now (buf .exit)) ⌝ }
 {
     let none = Case { op: 0, size: 0 };
@@ -79,7 +79,7 @@ fn field_at(s: &[u8], at: usize) -> Part
 }
 
 // The field k, counted from 0.
-pub fn field(s: &[u8], k: usize) -> Part
+pub(crate) fn field(s: &[u8], k: usize) -> Part
     ensures { λ r. ⌜ (r .start ≤ r .end) × (r .end ≤ length (now (s .entry))) ⌝ }
 {
     let mut f = field_at(s, 0);
@@ -90,7 +90,7 @@ pub fn field(s: &[u8], k: usize) -> Part
 }
 
 // The number in field k, and the largest there is where that has not eight bytes: no answer is it.
-pub fn number(s: &[u8], k: usize) -> u64 {
+pub(crate) fn number(s: &[u8], k: usize) -> u64 {
     let f = field(s, k);
     if f.end - f.start != 8 {
         return 0xFFFFFFFFFFFFFFFF;
@@ -99,7 +99,7 @@ pub fn number(s: &[u8], k: usize) -> u64 {
 }
 
 // Puts the bytes of field k at the start of out, as many as it has room for, and answers how many.
-pub fn load(s: &[u8], k: usize, out: &mut [u8]) -> usize
+pub(crate) fn load(s: &[u8], k: usize, out: &mut [u8]) -> usize
     ensures { λ r. ⌜ r ≤ length (now (out .exit)) ⌝ }
 {
     let f = field(s, k);
@@ -112,7 +112,7 @@ pub fn load(s: &[u8], k: usize, out: &mut [u8]) -> usize
 }
 
 // Whether field k has these bytes.
-pub fn holds(s: &[u8], k: usize, bytes: &[u8]) -> bool {
+pub(crate) fn holds(s: &[u8], k: usize, bytes: &[u8]) -> bool {
     let f = field(s, k);
     let start = f.start;
     let end = f.end;
@@ -120,6 +120,6 @@ pub fn holds(s: &[u8], k: usize, bytes: &[u8]) -> bool {
 }
 
 // Whether field k has the bytes of a key.
-pub fn holds_key(s: &[u8], k: usize, key: &[u8; 32]) -> bool {
+pub(crate) fn holds_key(s: &[u8], k: usize, key: &[u8; 32]) -> bool {
     holds(s, k, &key[..])
 }

@@ -13,12 +13,12 @@ fn is_size(r: Size, s: &[u8], k: usize) -> bool
 {
     match r {
         Size::Is(x) => cases::number(s, k) == 0 && cases::number(s, k + 1) == x as u64,
-        Size::Refused(why) => cases::number(s, k) == why.number(),
+        Size::Refused(why) => cases::number(s, k) == refusals::number(why),
     }
 }
 
 // Fields: q, sum, n, refusal, size.
-pub fn body(s: &[u8]) -> bool {
+pub(crate) fn body(s: &[u8]) -> bool {
     let q = cases::number(s, 0) as usize;
     let sum = cases::number(s, 1) as usize;
     let n = cases::number(s, 2) as usize;
@@ -26,7 +26,7 @@ pub fn body(s: &[u8]) -> bool {
 }
 
 // Fields: q, sum, n, first length, refusal, size.
-pub fn whole(s: &[u8]) -> bool {
+pub(crate) fn whole(s: &[u8]) -> bool {
     let q = cases::number(s, 0) as usize;
     let sum = cases::number(s, 1) as usize;
     let n = cases::number(s, 2) as usize;
@@ -39,7 +39,7 @@ pub fn whole(s: &[u8]) -> bool {
 }
 
 // Fields: first length, m, sum of the others, q, refusal, size.
-pub fn stored(s: &[u8]) -> bool {
+pub(crate) fn stored(s: &[u8]) -> bool {
     let first = cases::number(s, 0) as usize;
     let m = cases::number(s, 1) as usize;
     let others = cases::number(s, 2) as usize;
@@ -53,7 +53,7 @@ pub fn stored(s: &[u8]) -> bool {
 
 // Fields: page, and of its check: refusal, page number, n, m, q, bits; index, and of the entry there:
 // key before, refusal, pointer, key afterwards.
-pub fn page(s: &[u8]) -> bool {
+pub(crate) fn page(s: &[u8]) -> bool {
     let f = cases::field(s, 0);
     let start = f.start;
     let end = f.end;
@@ -79,13 +79,13 @@ fn is_header(r: Checked, s: &[u8]) -> bool {
                 && cases::number(s, 5) == h.q as u64
                 && cases::number(s, 6) == h.bits as u64
         }
-        Checked::Refused(why) => cases::number(s, 1) == why.number(),
+        Checked::Refused(why) => cases::number(s, 1) == refusals::number(why),
     }
 }
 
 fn is_pointer(r: EntryRead, s: &[u8]) -> bool {
     match r {
         EntryRead::Pointer(x) => cases::number(s, 9) == 0 && cases::number(s, 10) == x,
-        EntryRead::Refused(why) => cases::number(s, 9) == why.number(),
+        EntryRead::Refused(why) => cases::number(s, 9) == refusals::number(why),
     }
 }

@@ -1,11 +1,12 @@
--- Demand 3 as definitions that compute. Document 01, "What is demanded", 3.
--- In order: sameBytes · blankPage blankUndo · isNormal · gives bringsAgain andAgain bringsBack · tripAnswer.
+-- Demand 3 as definitions that compute: document 01, "Demands", 3.
+-- In order: sameBytes · blankPage blankUndo · isNormal · gives bringsAgain andAgain bringsBack · tripAnswer Agreed.
 -- Assumes nothing.
-use Prim.Native.Nat.{ℕ}
+use Prim.Native.Nat.{ℕ, _≤_}
 use mathlib.Core.Bool.{Bool, true, false, _&&_}
 use mathlib.Core.List.{List, [], _∷_}
+use mathlib.Core.Path.{_≡_}
 use lib.Dec.{eqb}
-use lib.ListN.{replicate, take}
+use lib.ListN.{length, replicate, take}
 use Rattle.format.specs.Answer.{Answer}
 use Rattle.format.specs.Build.{Built, Numbers, build}
 use Rattle.format.specs.Normal.{normalPage}
@@ -66,3 +67,11 @@ abbrev pub tripAnswer : Trip → Answer Numbers
 tripAnswer (Agrees v) = Answer.Value (numbersMeant v)
 tripAnswer Differs = Answer.Refused 0
 tripAnswer (Refused r) = Answer.Refused (refusalNumber r)
+
+-- What a round trip's answer says of lent memory afterwards. That all agree: over a base, the record at the front of
+-- the undo buffer brings the base back, and the undo record of that brings the page again. That they differ is never
+-- said.
+abbrev pub Agreed : List ℕ → List ℕ → List ℕ → ℕ → Trip → Type 0
+Agreed base page undo number (Agrees v) = 1 ≤ length base → bringsBack base page (take (v .undo) undo) number ≡ true
+Agreed base page undo number Differs = ⊥
+Agreed base page undo number (Refused r) = Unit {0}

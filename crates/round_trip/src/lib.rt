@@ -3,7 +3,7 @@
 // It takes some 250 KB of stack, with the build that runs in it, and no heap.
 ghost use mathlib.Core.Path.{_≡_};
 ghost use Rattle.format.specs.Build.{build};
-ghost use Rattle.round_trip.specs.Trip.{bringsAgain, bringsBack, isNormal, tripAnswer};
+ghost use Rattle.round_trip.specs.Trip.{Agreed, bringsAgain, bringsBack, isNormal, tripAnswer};
 use branch_ops::choice;
 use branch_ops::choice::Chosen;
 use build::Built;
@@ -87,6 +87,7 @@ pub fn round_trip(base: &[u8], rec: &[u8], number: u32, page: &mut [u8], undo: &
     ensures undo { λ _. ⌜ now (undo .exit)
         ≡ build (now (base .entry)) (now (rec .entry)) number (now (page .entry))
         (now (undo .entry)) .undo ⌝ }
+    ensures agreed { λ r. ⌜ Agreed (now (base .entry)) (now (page .exit)) (now (undo .exit)) number r ⌝ }
 {
     match build::build(base, rec, number, page, undo) {
         Built::Refused(r) => Trip::Refused(r),

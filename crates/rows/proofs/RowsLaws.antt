@@ -24,12 +24,6 @@ use Rattle.rows.specs.Rows.{rowKey, rowPointer, rowSource, rowEntry, row
 -- ---- each
 
 module _ {ℓ} {X : Type ℓ} where
-  pub each-same : (n : ℕ) (f g : ℕ → X) → ((i : ℕ) → i < n → f i ≡ g i) → each n f ≡ each n g
-  unfolding each
-  each-same zero f g e = refl
-  each-same (suc n) f g e =
-      ap₂ _∷_ (e 0 (omega arith)) (each-same n (λ i. f (suc i)) (λ i. g (suc i)) (λ i h. e (suc i) (omega arith)))
-
   pub each-snoc : (n : ℕ) (f : ℕ → X) → each (suc n) f ≡ each n f ++ (f n ∷ [])
   unfolding each
   each-snoc zero f = refl
@@ -225,21 +219,6 @@ rowEntry-withRows t i (e ∷ es) d (suc j) y h r =
     ap (rowEntry (withRows (withRow t i e i) (suc i) es)) q
     ∙ rowEntry-withRows (withRow t i e i) (suc i) es d j (y .1) (omega arith)
     (subst (λ (n : ℕ). suc i + j < n / 6) (sym (length-withRow t i e i)) (omega arith))
-
--- with its position
-pub rowSource-withRows : (t : List ℕ) (i : ℕ) (es : List Entry) (j : ℕ) → j < length es → i + j < length t / 6
-    → rowSource (withRows t i es) (i + j) ≡ i + j
-unfolding withRows
-rowSource-withRows t i [] j h r = absurd (omega arith)
-rowSource-withRows t i (e ∷ es) zero h r =
-    let q : i + 0 ≡ i = omega arith in
-    ap (rowSource (withRows (withRow t i e i) (suc i) es)) q
-    ∙ rowSource-before (withRow t i e i) (suc i) es i (omega arith) ∙ rowSource-same t i e i (omega arith) ∙ sym q
-rowSource-withRows t i (e ∷ es) (suc j) h r =
-    let q : i + suc j ≡ suc i + j = omega arith in
-    ap (rowSource (withRows (withRow t i e i) (suc i) es)) q
-    ∙ rowSource-withRows (withRow t i e i) (suc i) es j (omega arith)
-    (subst (λ (n : ℕ). suc i + j < n / 6) (sym (length-withRow t i e i)) (omega arith)) ∙ sym q
 
 -- so a table with room for all holds them
 pub rows-withRows : (t : List ℕ) (es : List Entry) → AreKeys (keys es) → length es ≤ length t / 6

@@ -29,7 +29,7 @@ fn number(o: Outcome) -> u64
 {
     match o {
         Outcome::Done => 0,
-        Outcome::Refused(why) => why.number(),
+        Outcome::Refused(why) => refusals::number(why),
     }
 }
 
@@ -43,7 +43,7 @@ fn told(s: sizes::Size) -> Size
             value: value as u64,
         },
         sizes::Size::Refused(why) => Size {
-            refusal: why.number(),
+            refusal: refusals::number(why),
             value: 0,
         },
     }
@@ -64,7 +64,7 @@ pub extern "C" fn trussember_check(page: &[u8]) -> Checked
             bits: h.bits as u64,
         },
         reader::Checked::Refused(why) => Checked {
-            refusal: why.number(),
+            refusal: refusals::number(why),
             number: 0,
             n: 0,
             m: 0,
@@ -87,7 +87,7 @@ pub extern "C" fn trussember_entry(page: &[u8], index: usize, key: &mut [u8; 32]
             pointer,
         },
         reader::EntryRead::Refused(why) => EntryRead {
-            refusal: why.number(),
+            refusal: refusals::number(why),
             pointer: 0,
         },
     }
@@ -123,7 +123,7 @@ pub extern "C" fn trussember_build(
             undo: made.undo as u64,
         },
         build::Built::Refused(why) => Built {
-            refusal: why.number(),
+            refusal: refusals::number(why),
             n: 0,
             m: 0,
             q: 0,

@@ -10,7 +10,7 @@ use mathlib.Core.List.{List}
 use mathlib.Core.Path.{_≡_, sym, ap, ap₂, subst, _∙_}
 use Prim.Native.Nat.{ℕ, _-_, _^_, _≤_, _<_}
 use native.Mathlib.Omega.{arith}
-use borrow.Author.Tests.{not-true}
+use borrow.Author.Tests.{not-false, not-true}
 use lib.ListN.{length, take}
 use Rattle.format.specs.Answer.{Answer}
 use Rattle.format.specs.Bits.{AllBelow}
@@ -41,6 +41,14 @@ module _ (base rec : List ℕ) (number : ℕ) (page undo : List ℕ) (x : Built)
       fits-in =
           subst (λ (l : List ℕ). v .undo ≤ length l) (sym eu) (undo-room base rec number page undo (numbersMeant v) value)
 
+      -- the record that was tried is the one at the buffer's front
+      tried : (r : Bool) → r ≡ bringsBack base page′ (take (v .undo - 0) undo′) number → not r ≡ false
+          → 1 ≤ length base
+          → bringsBack base page′ (take (v .undo) undo′) number ≡ true
+      tried r er z l =
+          let k : v .undo - 0 ≡ v .undo = omega arith in
+          sym (er ∙ ap (λ (i : ℕ). bringsBack base page′ (take i undo′) number) k) ∙ not-false r z
+
       never : AllBelow 256 base → AllBelow 256 rec → number < 2 ^ 32 → 1 ≤ length base → (r : Bool)
           → r ≡ bringsBack base page′ (take (v .undo - 0) undo′) number
           → not r ≡ true
@@ -58,6 +66,10 @@ module _ (base rec : List ℕ) (number : ℕ) (page undo : List ℕ) (x : Built)
             answered = sym value;
           }) in
           true≢false (sym q ∙ sym er ∙ not-true r z)
+
+-- with no base nothing is to be brought back
+none : (base : List ℕ) → 1 ≤ length base → length base ≡ 0 → ⊥
+none base l e = omega arith
 
 ruleset laws = (refused, value, fits-in)
 
@@ -77,7 +89,7 @@ same-length-2 : tie.Need-same-length-2
 same-length-2 c = search (needs, laws)
 
 returns : tie.Need-returns
-returns c = search (needs, laws)
+returns c = (search (needs, laws), (search (needs, laws), (search (needs, laws), λ l. absurd (none (c .before .before .before .before .before .before .before .before .before .before .before .before .before .before .before .args .base .now) l (search needs)))))
 
 sub-brings-back : tie.Need-sub-brings-back
 sub-brings-back c = search (needs, laws)
@@ -117,7 +129,7 @@ same-length-6 : tie.Need-same-length-6
 same-length-6 c = search (needs, laws)
 
 returns-3 : tie.Need-returns-3
-returns-3 c = search (needs, laws)
+returns-3 c = (search (needs, laws), (search (needs, laws), (search (needs, laws), tt)))
 
 same-length-7 : tie.Need-same-length-7
 same-length-7 c = search (needs, laws)
@@ -126,7 +138,21 @@ same-length-8 : tie.Need-same-length-8
 same-length-8 c = search (needs, laws)
 
 returns-4 : tie.Need-returns-4
-returns-4 c = search (needs, laws)
+returns-4 c = (
+  search (needs, laws),
+  (
+    search (needs, laws),
+    (
+      search (needs, laws),
+      tried _ _ _ _ _ _ (c .before .before .before .before .before .before .before .before .before .before .before .before .before .build .ensures .0) _ (c .before .before .before .before .before .before .before .v .given .1) _ _
+          (c .before .before .before .before .before .before .before .before .before .before .before .before .before .build .ensures .1 .0)
+          (c .before .before .before .before .before .before .before .before .before .before .before .before .before .build .ensures .1 .1)
+          _
+          (c .before .brings-back .ensures)
+          (search needs),
+    ),
+  ),
+)
 
 pub round-trip-spec : {M : Type 1} → statement M
 round-trip-spec =

@@ -1,10 +1,10 @@
--- `format::refusal::Refusal::number` meets its contract: each case answers what `refusalNumber` says of it.
+-- `refusals::number` meets its contract: each case answers what `refusalNumber` says of it.
 -- Assumes nothing.
 use mathlib.Core.Path.{sym, ap}
 use borrow.Author.Needs.{needs}
 use Rattle.format.specs.Refusals.{refusalNumber}
-use Rattle.format.proofs.refusal.Refusal.number.Statement.{statement}
-use Rattle.format.proofs.refusal.Refusal.number.Tie as tie
+use Rattle.refusals.proofs.number.Statement.{statement}
+use Rattle.refusals.proofs.number.Tie as tie
 
 enum-told : tie.Need-enum-told
 enum-told c = search needs
