@@ -28,7 +28,7 @@ use Rattle.facts.proofs.RecordLaws.{readRecord-accepted, readRecord-recordOf}
 use Rattle.facts.proofs.EditLaws.{length-apply, sound-apply}
 use Rattle.facts.proofs.UndoLaws.{allWellFormed-undoEdits, anyOutside-undoEdits, apply-undoEdits, length-undoEdits, length-undoRecord, undoEdits-some, undoRecord-edits, undoRecord-nil}
 use Rattle.facts.proofs.BuildLaws.{Acceptable, Done, accepted-answer, accepted-page, accepted-undo, build-acceptable, build-accepts, build-done, value-same}
-use Rattle.laws.specs.Theorems.{again, Gives}
+use Rattle.laws.specs.Builds.{again, Gives}
 
 -- ---- entries that a normal page holds
 

@@ -31,7 +31,8 @@ use Rattle.facts.proofs.RecordLaws.{allBelow-recordOf}
 use Rattle.facts.proofs.BuildLaws.{build-refuses, refused-answer}
 use Rattle.format.proofs.Samples.{full, hex, inserts, key, lastKey, long, two, zeros}
 use Rattle.laws.specs.Words.{Between, CopiedFrom, LengthOf, SharedBy}
-use Rattle.laws.specs.Theorems.{Accepts, Gives, Lent, Once, ReadsAs, Rising, again}
+use Rattle.laws.specs.Pages.{ReadsAs, Rising}
+use Rattle.laws.specs.Builds.{Accepts, Gives, Lent, Once, again}
 use Rattle.laws.proofs.Proved as theorem
 
 -- ---- what serves
@@ -179,7 +180,7 @@ isKey-long : (b len : ℕ) → 9 ≤ len → len ≤ 256 → IsKey (long b len)
 unfolding long AllBelow
 isKey-long b len low high =
     record {
-      size = simp (length-append, length-replicate, length-bits) (omega arith);
+      size = simp (length-append, length-replicate) (omega arith);
       bits =
           allBelow-append 2 (bits 8 b ++ zeros (len - 9)) (1 ∷ zeros (256 - len))
           (allBelow-append 2 (bits 8 b) (zeros (len - 9)) (allBelow-bits 8 b) (allBelow-replicate 2 (len - 9) 0 (omega arith)))

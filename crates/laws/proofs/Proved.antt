@@ -1,4 +1,4 @@
--- Each promise of `specs/Words.antt` and `specs/Theorems.antt` is kept: by the laws of `format`, and `BackLaws`.
+-- Each promise of `specs/` is kept: by the laws of `facts`, `BackLaws` and `RoomLaws`.
 -- In order: as the statements stand.
 -- Not here: that the hypotheses can be met (`Instances`).
 -- Assumes nothing.
@@ -34,7 +34,9 @@ use Rattle.facts.proofs.BuildLaws.{Acceptable, Done, NotDone, noneHolds-buildTe
 use Rattle.laws.proofs.BackLaws.{Held, held-base, held-new, build-back, build-back-normal, build-forth, build-undo-bound, build-no-base}
 use Rattle.laws.proofs.RoomLaws.{Full, no-room}
 use Rattle.laws.specs.Words.{OrderWords, LengthWords, SharedWords, SeparateWords, Between, CopyWords, CopiedFrom}
-use Rattle.laws.specs.Theorems.{Rising, ReadBack, CheckedBack, Fewest, Tie, PermittedChoice, Room, LaterLonger, SumFormula, StoredFromWhole, WholeFromStored, BaseFits, BaseBits, RecordBack, RecordOwn, UndoApplies, UndoInside, UndoCount, UndoRuns, UndoBound, FirstPageRefusal, FirstEntryRefusal, FirstRefusal, AcceptedExactly, Untouched, AcceptedBuild, Accepts, UndoKept, SameEntries, Back, BackNormal, Forth, NoBase, NoEdits, ReadsAs, BuiltRead, BuiltFewest, BuiltNoRoom}
+use Rattle.laws.specs.Pages.{Rising, ReadBack, CheckedBack, Fewest, Tie, PermittedChoice, Room, LaterLonger, SumFormula, StoredFromWhole, WholeFromStored, BaseFits, BaseBits, ReadsAs}
+use Rattle.laws.specs.Records.{RecordBack, RecordOwn, UndoApplies, UndoInside, UndoCount, UndoRuns, UndoBound}
+use Rattle.laws.specs.Builds.{FirstPageRefusal, FirstEntryRefusal, FirstRefusal, AcceptedExactly, Untouched, AcceptedBuild, Accepts, UndoKept, SameEntries, Back, BackNormal, Forth, NoBase, NoEdits, BuiltRead, BuiltFewest, BuiltNoRoom}
 
 -- ---- Words
 

@@ -22,7 +22,7 @@ use Rattle.facts.proofs.PageLaws.{entries-sound}
 use Rattle.facts.proofs.RecordLaws.{readRecord-accepted}
 use Rattle.facts.proofs.EditLaws.{length-apply, sound-apply}
 use Rattle.facts.proofs.BuildLaws.{build-refused, editsOf-some, some-malformed}
-use Rattle.laws.specs.Theorems.{Rising}
+use Rattle.laws.specs.Pages.{Rising}
 
 -- the new entries of a build that is refused with 14
 pub record Full (base rec : List ℕ) (es : List Edit) : Type 0 where

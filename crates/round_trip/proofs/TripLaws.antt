@@ -17,7 +17,7 @@ use Rattle.format.specs.Page.{Entry, checkPage, entries, pageNumber, pageRefusa
 use Rattle.facts.proofs.AcceptedLaws.{Accepted, accepted-pageRefusal, entries-fit, keys-entries-ascending}
 use Rattle.facts.proofs.AnswerLaws.{and-left, and-right}
 use Rattle.facts.proofs.BuildLaws.{Done, build-done}
-use Rattle.laws.specs.Theorems.{Gives, Lent, Once}
+use Rattle.laws.specs.Builds.{Gives, Lent, Once}
 use Rattle.laws.proofs.Proved.{back, forth}
 use Rattle.node.specs.declared.reader.Header.{Header}
 use Rattle.node.specs.Reader.{SizesFit, headerMeant, loaded}
