@@ -23,7 +23,7 @@ use Rattle.format.specs.Edit.{AllWellFormed, Edit, anyOutside, apply, ascending
 use Rattle.format.specs.Edit.Edit.{Insert, Keep, Update}
 use Rattle.format.specs.Undo.{undoEdits}
 use Rattle.format.specs.Build.{Built, Numbers, build, buildTests, editTests, editsOf, malformed, refused}
-use Rattle.facts.proofs.BitsLaws.{allBelow-append, allBelow-bits, allBelow-replicate, length-bits}
+use Rattle.facts.proofs.BitsLaws.{allBelow-append, allBelow-bits, allBelow-replicate}
 use Rattle.facts.proofs.KeyLaws.{isKey-bitsOf}
 use Rattle.facts.proofs.EntryLaws.{sound-append, sound-each}
 use Rattle.facts.proofs.NormalLaws.{allBelow-pageUnder}
