@@ -1,5 +1,5 @@
 #!/usr/bin/env python3
-"""Writes crates/cases/proofs/Vectors.antt: cases of the outside vectors as facts that the checker computes.
+"""Writes crates/vectors/proofs/Vectors.antt: cases of the outside vectors as facts that the checker computes.
 
     tools/cases.py VECTORS            write the module
     tools/cases.py VECTORS --check    say whether it is what this script writes (exit status 1 if not)
@@ -14,7 +14,7 @@ import sys
 SMALLEST = 2
 BUILDS = 8
 LONGEST = 4000
-MODULE = os.path.join(os.path.dirname(os.path.abspath(__file__)), "..", "crates", "cases", "proofs", "Vectors.antt")
+MODULE = os.path.join(os.path.dirname(os.path.abspath(__file__)), "..", "crates", "vectors", "proofs", "Vectors.antt")
 
 HEAD = """\
 -- Cases of an independent model of document 01, computed from the definitions. Written by tools/cases.py: change that, not this.
@@ -114,9 +114,8 @@ def facts(case):
                  answer(case, lambda values: entry % (key(values[0]), values[1])), "readEntry bitsOf hex")]
     call = "build %s %s %s %s %s" % (listed(a[0]), listed(a[1]), a[2], listed(a[3]), listed(a[4]))
     numbers = "(record { n = %s; m = %s; q = %s; bits = %s; undo = %s })"
-    return [(call + " .answer", answer(case, lambda values: numbers % tuple(values)), "build hex"),
-            (call + " .page", listed(case["memory"][0]), "build hex"),
-            (call + " .undo", listed(case["memory"][1]), "build hex")]
+    built = "record { answer = %s; page = %s; undo = %s }"
+    return [(call, built % (answer(case, lambda values: numbers % tuple(values)), *map(listed, case["memory"])), "build hex")]
 
 
 def read(path):
@@ -176,7 +175,7 @@ def main():
     if sys.argv[2:]:
         with open(MODULE) as old:
             if old.read() != text:
-                sys.exit("crates/cases/proofs/Vectors.antt is not what tools/cases.py writes")
+                sys.exit("crates/vectors/proofs/Vectors.antt is not what tools/cases.py writes")
         print("tools/cases.py: Vectors.antt is as written, %d cases" % len(cases))
         return
     with open(MODULE, "w") as out:

@@ -10,7 +10,7 @@ use Prim.Native.Nat.{ℕ, suc, _+_, _-_, _*_, _/_, _≤_, _<_, min}
 use native.Mathlib.Nat.{suc-mul}
 use native.Mathlib.Numerals.{add-one}
 use native.Mathlib.Omega.{arith}
-use borrow.Author.Tests.{leb-true, leb-false, le-leb, lt-leb}
+use borrow.Author.Tests.{leb-true, leb-false, le-leb, lt-leb, not-true, not-false}
 use lib.Dec.{leb}
 use lib.ListN.{length, getD, take, drop, drop-of-length-le}
 use lib.Seq.{drop-cons, take-suc, take-all}
@@ -174,19 +174,21 @@ module _ (t : List ℕ) (n : ℕ) where
         onePass-end i total c s h l
         ∙ ap (λ (x : ℕ). record { m = c .m; q = c .q; bits = x }) (sym eb)
 
-    body-is : bodyBytes (length (keys (rows n t))) 0 b ≡ 6 * n + (b + 7) / 8
-    body-is = body-of (length (keys (rows n t))) b ∙ ap (λ (x : ℕ). 6 * x + (b + 7) / 8) length-row-keys
+    module _ (r : Bool) (er : r ≡ leb (bodyBytes n 0 b) 4086) where
+      body-is : r ≡ leb (bodyBytes (length (keys (rows n t))) 0 b) 4086
+      body-is = er ∙ ap (λ (x : ℕ). leb (bodyBytes x 0 b) 4086) (sym length-row-keys)
 
-    pub end-taken : 6 * n + (b + 7) / 8 ≤ 4086 → Answer.Value (record { m = c .m; q = c .q; bits = b })
-        ≡ chosenOf (keys (rows n t))
-    end-taken r =
-        sym (chosenOf-given (keys (rows n t)) (record { m = c .m; q = c .q; bits = b }) end-is
-        ∙ given-taken (length (keys (rows n t))) (record { m = c .m; q = c .q; bits = b }) (omega (arith, body-is)))
+      pub end-taken : not r ≡ false → Answer.Value (record { m = c .m; q = c .q; bits = b }) ≡ chosenOf (keys (rows n t))
+      end-taken f =
+          sym (chosenOf-given (keys (rows n t)) (record { m = c .m; q = c .q; bits = b }) end-is
+          ∙ given-taken (length (keys (rows n t))) (record { m = c .m; q = c .q; bits = b })
+          (leb-true (bodyBytes (length (keys (rows n t))) 0 b) 4086 (sym body-is ∙ not-false r f)))
 
-    pub end-refused : 4086 < 6 * n + (b + 7) / 8 → Answer.Refused 14 ≡ chosenOf (keys (rows n t))
-    end-refused r =
-        sym (chosenOf-given (keys (rows n t)) (record { m = c .m; q = c .q; bits = b }) end-is
-        ∙ given-refused (length (keys (rows n t))) (record { m = c .m; q = c .q; bits = b }) (omega (arith, body-is)))
+      pub end-refused : not r ≡ true → Answer.Refused 14 ≡ chosenOf (keys (rows n t))
+      end-refused f =
+          sym (chosenOf-given (keys (rows n t)) (record { m = c .m; q = c .q; bits = b }) end-is
+          ∙ given-refused (length (keys (rows n t))) (record { m = c .m; q = c .q; bits = b })
+          (leb-false (bodyBytes (length (keys (rows n t))) 0 b) 4086 (sym body-is ∙ not-true r f)))
 
   pub too-many : 681 < n → Answer.Refused 14 ≡ chosenOf (keys (rows n t))
   too-many h =

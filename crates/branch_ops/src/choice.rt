@@ -90,7 +90,7 @@ pub fn choose(t: &[u64], n: usize) -> Chosen
         i += 1;
     }
     let bits = numbers::over(total, best.bits);
-    if layout::BODY_SIZE < 6 * n + (bits + 7) / 8 {
+    if !shape::body_fits(n, 0, bits) {
         return Chosen::Refused(Refusal::NoRoom);
     }
     Chosen::Taken(Choice {

@@ -21,14 +21,13 @@ use Rattle.facts.proofs.AcceptedLaws.{Accepted, accepted-pageRefusal}
 use Rattle.facts.proofs.AnswerLaws.{first-none, first-stop}
 use Rattle.facts.proofs.BuildLaws.{build-none, build-refuses, buildTests-later, first-later, laterTests}
 use Rattle.facts.proofs.PageLaws.{entries-at}
-use Rattle.node.specs.declared.reader.Header.{Header}
+use Rattle.shape.specs.declared.Header.{Header}
 use Rattle.rows.specs.Rows.{rowKey, rowSource, rows}
 use Rattle.rows.proofs.RowsLaws.{length-rows}
 use Rattle.builder.specs.Over.{pageOver, usable}
 use Rattle.builder.specs.Writes.{Wrote}
 use Rattle.builder.proofs.BaseLaws.{wrote-based}
 use Rattle.builder.proofs.WriteLaws.{wrote-none, wrote-normal}
-use Rattle.build.specs.declared.Numbers.{Numbers as CodeNumbers}
 use Rattle.build.specs.Built.{Held, Old, Planned, Ready, changeTests, numbersMeant}
 
 -- what a build answers and leaves

@@ -16,11 +16,13 @@ use Rattle.format.specs.Page.{Sound, checkPage, entries, pageRefusal}
 use Rattle.format.specs.Refusals.{refusalNumber}
 use Rattle.facts.proofs.AcceptedLaws.{accepted-pageRefusal, entries-ascending}
 use Rattle.facts.proofs.PageLaws.{entries-sound}
-use Rattle.node.specs.declared.reader.Header.{Header}
-use Rattle.node.specs.declared.reader.Checked.{Checked}
-use Rattle.node.specs.declared.reader.Checked.the-variants.{Page, Refused}
-use Rattle.node.specs.Reader.{SizesFit, checkedAnswer, headerMeant, loaded}
-use Rattle.node.proofs.LoadedLaws.{checked-accepted, checked-fits, checked-refused, length-loaded, loaded-rows}
+use Rattle.shape.specs.declared.Header.{Header}
+use Rattle.shape.specs.declared.Checked.{Checked}
+use Rattle.shape.specs.declared.Checked.the-variants.{Page, Refused}
+use Rattle.shape.specs.Shape.{SizesFit, checkedAnswer, headerMeant}
+use Rattle.node.specs.Reader.{loaded}
+use Rattle.shape.proofs.CheckedLaws.{checked-accepted, checked-fits, checked-refused}
+use Rattle.node.proofs.LoadedLaws.{length-loaded, loaded-rows}
 use Rattle.rows.specs.Rows.{rows}
 use Rattle.build.specs.Built.{BaseKnown, Held}
 

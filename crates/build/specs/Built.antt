@@ -15,9 +15,9 @@ use Rattle.format.specs.Normal.{choice, fits, keys}
 use Rattle.format.specs.Page.{Entry, Sound, compressed, count, entries, pageRefusal, prefixLength}
 use Rattle.format.specs.Refusals.{refusalNumber}
 use Rattle.format.specs.Undo.{undoRecord}
-use Rattle.node.specs.declared.reader.Header.{Header}
-use Rattle.node.specs.declared.reader.Checked.{Checked}
-use Rattle.node.specs.declared.reader.Checked.the-variants.{Page as Base, Refused as NoBase}
+use Rattle.shape.specs.declared.Header.{Header}
+use Rattle.shape.specs.declared.Checked.{Checked}
+use Rattle.shape.specs.declared.Checked.the-variants.{Page as Base, Refused as NoBase}
 use Rattle.rows.specs.Rows.{rowKey, rowSource, rows}
 use Rattle.builder.specs.Over.{Based}
 use Rattle.build.specs.declared.Numbers.{Numbers as CodeNumbers}

@@ -18,8 +18,8 @@ use edits::apply;
 use edits::apply::Edited;
 use format::refusal::Refusal;
 use node::reader;
-use node::reader::Checked;
-use node::reader::Header;
+use shape::Checked;
+use shape::Header;
 
 // What an accepted build answers: n, m, q and bits of the new page, and the undo record's length.
 pub struct Numbers {

@@ -1,15 +1,15 @@
 -- Laws of what the page writer answers.
 -- In order: the answer, from its tests; the page of the rows' own bits; the law that callers cite.
 -- Assumes nothing.
-use mathlib.Core.Bool.{Bool, true, false, cond}
+use mathlib.Core.Bool.{Bool, true, false, cond, not}
 use mathlib.Core.List.{List, _++_}
 use mathlib.Core.Path.{_≡_, refl, sym, ap, ap₂, subst, _∙_}
-use Prim.Native.Nat.{ℕ, _+_, _*_, _/_, _-_, _≤_, _<_}
+use Prim.Native.Nat.{ℕ, _+_, _*_, _-_, _≤_, _<_}
 use native.Mathlib.Omega.{arith}
-use borrow.Author.Tests.{eq-eqb, ne-eqb, lt-ltb, le-ltb, le-leb, lt-leb, ltb-true, leb-true}
+use borrow.Author.Tests.{eq-eqb, ne-eqb, lt-ltb, le-ltb, le-leb, lt-leb, ltb-true, leb-true, leb-false, not-true, not-false}
 use lib.Dec.{eqb, ltb, leb}
 use lib.ListN.{length, take}
-use Rattle.format.specs.Bits.{bytesFor, le, pack}
+use Rattle.format.specs.Bits.{le, pack}
 use Rattle.format.specs.Page.{Entry, bodyBytes}
 use Rattle.format.specs.Normal.{choice, fits, keys, normalPage, pageUnder, pointers, running}
 use Rattle.format.specs.Normal.{storedLengths, sum, words}
@@ -54,16 +54,22 @@ module _ (out t : List ℕ) (n m q : ℕ) (page : List ℕ) where
   unfolding bodyBytes
   many e g h l = no-room e g h (omega arith)
 
-  pub long : (s : ℕ) → length out ≡ 4096 → 1 ≤ n → q ≤ 256 → n ≤ 681 → s ≡ storedSum t n m q
-      → 4086 < 6 * n + (q + s + 7) / 8
-      → Wrote out t n m q page false out
-  unfolding bodyBytes bytesFor
-  long s e g h k es l = no-room e g h (omega (arith, storedSum-in t n m q k))
+  -- what the test of the body tells, of the sum that the code has
+  body-is : (s : ℕ) (r : Bool) → n ≤ 681 → s ≡ storedSum t n m q → r ≡ leb (bodyBytes n q s) 4086
+      → r ≡ leb (bodyBytes n q (sum (rowLengths n t m q))) 4086
+  body-is s r k es er = er ∙ ap (λ (x : ℕ). leb (bodyBytes n q x) 4086) (es ∙ storedSum-in t n m q k)
 
-  pub room : (s : ℕ) → n ≤ 681 → s ≡ storedSum t n m q → 6 * n + (q + s + 7) / 8 ≤ 4086
+  pub long : (s : ℕ) (r : Bool) → length out ≡ 4096 → 1 ≤ n → q ≤ 256 → n ≤ 681 → s ≡ storedSum t n m q
+      → r ≡ leb (bodyBytes n q s) 4086
+      → not r ≡ true → Wrote out t n m q page false out
+  long s r e g h k es er f =
+      no-room e g h
+      (leb-false (bodyBytes n q (sum (rowLengths n t m q))) 4086 (sym (body-is s r k es er) ∙ not-true r f))
+
+  pub room : (s : ℕ) (r : Bool) → n ≤ 681 → s ≡ storedSum t n m q → r ≡ leb (bodyBytes n q s) 4086 → not r ≡ false
       → bodyBytes n q (sum (rowLengths n t m q)) ≤ 4086
-  unfolding bodyBytes bytesFor
-  room s k es l = omega (arith, storedSum-in t n m q k)
+  room s r k es er f =
+      leb-true (bodyBytes n q (sum (rowLengths n t m q))) 4086 (sym (body-is s r k es er) ∙ not-false r f)
 
   writable-room : length out ≡ 4096 → 1 ≤ n → q ≤ 256 → bodyBytes n q (sum (rowLengths n t m q)) ≤ 4086
       → writable out t n m q ≡ true
@@ -72,12 +78,13 @@ module _ (out t : List ℕ) (n m q : ℕ) (page : List ℕ) where
       let b : ℕ = bodyBytes n q (sum (rowLengths n t m q)) in
       rw (eq-eqb (length out) 4096 e, lt-ltb 0 n (omega arith), le-leb q 256 h, le-leb b 4086 l)
 
-  pub done : (s : ℕ) (after : List ℕ) → length out ≡ 4096 → 1 ≤ n → q ≤ 256 → n ≤ 681 → s ≡ storedSum t n m q
-      → 6 * n + (q + s + 7) / 8 ≤ 4086
+  pub done : (s : ℕ) (r : Bool) (after : List ℕ) → length out ≡ 4096 → 1 ≤ n → q ≤ 256 → n ≤ 681
+      → s ≡ storedSum t n m q
+      → r ≡ leb (bodyBytes n q s) 4086 → not r ≡ false
       → after ≡ page
       → Wrote out t n m q page true after
-  done s after e g h k es l ea =
-      let w : writable out t n m q ≡ true = writable-room e g h (room s k es l) in
+  done s r after e g h k es er f ea =
+      let w : writable out t n m q ≡ true = writable-room e g h (room s r k es er f) in
       record { answer = sym w; written = ea ∙ sym (ap (λ (b : Bool). cond b page out) w) }
 
 -- where it can be written there is a row

@@ -6,7 +6,6 @@ ghost use Prim.Native.Nat.{_≤_, _<_};
 ghost use lib.ListN.{length};
 ghost use Rattle.rows.specs.Rows.{rowSource};
 ghost use Rattle.builder.specs.Over.{kept, Run};
-use node::reader;
 use rows::table;
 
 // Whether the base has row i as the page is to have it.
@@ -31,8 +30,8 @@ pub(crate) fn is_kept(
     }
     let j = s as usize;
     let k = table::key_of(t, i);
-    let end = reader::cell(base, j);
-    if end != reader::start_offset(base, j) + numbers::over(k.separator_len(), q) {
+    let end = shape::cell(base, j);
+    if end != shape::start_offset(base, j) + numbers::over(k.separator_len(), q) {
         return false;
     }
     8 * (10 + 2 * bn) + (q + end) <= 8 * base.len()

@@ -24,7 +24,6 @@ ghost use Rattle.builder.specs.Over.{usable, overBits, pageOver};
 use crate::kept;
 use format::layout;
 use keys::Key;
-use node::reader;
 use parts::bits;
 use parts::fields;
 use rows::table;
@@ -105,8 +104,8 @@ impl BranchNodeBuilder {
     {
         let n = self.n;
         let start = self.bit_offset;
-        let from = reader::start_offset(base, j);
-        let len = numbers::over(reader::start_offset(base, j + k), from);
+        let from = shape::start_offset(base, j);
+        let len = numbers::over(shape::start_offset(base, j + k), from);
         bit_copy::bitwise_memcpy(part, q + start, base, 8 * (10 + 2 * bn) + (q + from), len);
         BranchNodeBuilder {
             n: n + k,
@@ -228,7 +227,7 @@ fn write_rows(
         return false;
     }
     let sum = fields::stored_sum(t, n, m, q);
-    if BranchNodeBuilder::BODY_SIZE < 6 * n + (q + sum + 7) / 8 {
+    if !shape::body_fits(n, q, sum) {
         return false;
     }
     put_page(out, number, base, bn, bm, t, n, m, q);

@@ -1,3 +1,2 @@
--- Cases that take long to compute: pages on their limits, and the outside cases.
+-- Cases that take long to compute: pages on their limits.
 pub mod Full
-pub mod Vectors

@@ -27,8 +27,8 @@ use Rattle.facts.proofs.PageLaws.{length-body}
 use Rattle.words.proofs.WindowLaws.{drop-bitsOf}
 use Rattle.keys.specs.declared.Key.{Key}
 use Rattle.keys.specs.Keys.{keyBits}
-use Rattle.node.specs.declared.reader.Header.{Header}
-use Rattle.node.specs.Reader.{SizesFit}
+use Rattle.shape.specs.declared.Header.{Header}
+use Rattle.shape.specs.Shape.{SizesFit}
 
 module _ (p : List ℕ) (h : Header) (f : SizesFit p h) where
   -- the first q bits of a key that holds the prefix

@@ -1,5 +1,5 @@
 -- The laws that the proofs of this crate share, and those that other crates cite. Read in this order.
 pub mod KeyLaws
-pub mod TestsLaws
+pub mod RisingLaws
 pub mod LoadedLaws
 pub mod UniqueLaws

@@ -1,6 +1,5 @@
--- Laws of what a check, an entry that was read and a page that was loaded tell (`specs/Reader.antt`).
--- In order: a header that was answered; a refusal; rows that are filled one behind the other; the table after a page
--- was loaded.
+-- Laws of what a page that was loaded tells (`specs/Reader.antt`).
+-- In order: rows that are filled one behind the other; the table after a page was loaded.
 -- Assumes nothing.
 use mathlib.Core.Bool.{Bool, true, false, cond, _||_}
 use mathlib.Core.List.{List}
@@ -11,73 +10,16 @@ use native.Mathlib.Omega.{arith}
 use borrow.Author.Tests.{ne-eqb}
 use lib.Dec.{eqb}
 use lib.ListN.{length}
-use Rattle.format.specs.Answer.{Answer, unless}
+use Rattle.format.specs.Answer.{Answer}
 use Rattle.format.specs.Normal.{keys}
-use Rattle.format.specs.Page.{Entry, Header, checkPage, count, each, entries, entryOf, headerOf, pageRefusal}
-use Rattle.facts.proofs.AcceptedLaws.{Accepted, accepted-pageRefusal}
+use Rattle.format.specs.Page.{Entry, Header, checkPage, count, each, entries, entryOf, pageRefusal}
 use Rattle.facts.proofs.AnswerLaws.{or-false}
 use Rattle.facts.proofs.EntryLaws.{AreKeys, length-each}
 use Rattle.facts.proofs.PageLaws.{keyOf-key, length-entries}
 use Rattle.rows.specs.Rows.{rows, withRow, withRows}
+use Rattle.shape.proofs.CheckedLaws.{checked-accepted, checked-refused}
 use Rattle.rows.proofs.RowsLaws.{each-snoc, length-withRows, rows-withRows, withRows-snoc}
-use Rattle.node.specs.declared.reader.Header.{Header as Numbers}
-use Rattle.node.specs.Reader.{SizesFit, headerMeant, loaded}
-
--- ---- a header that was answered
-
-unless-value : {A : Type 0} (n : ℕ) (v w : A) → Answer.Value w ≡ unless n v → n ≡ 0
-unfolding unless
-unless-value zero v w e = refl
-unless-value (suc n) v w e = let z : _≡_ {A = ℕ} 0 1 = cc in absurd (omega arith)
-
-module _ (p : List ℕ) (h : Header) (e : Answer.Value h ≡ checkPage p) where
-  -- none of 1 to 8 holds
-  pub checked-accepted : pageRefusal p ≡ 0
-  unfolding checkPage
-  checked-accepted = unless-value (pageRefusal p) (headerOf p) h e
-
-  pub checked-header : h ≡ headerOf p
-  unfolding checkPage unless
-  checked-header =
-      let f : Answer.Value h ≡ Answer.Value (headerOf p) = e ∙ ap (λ (k : ℕ). unless k (headerOf p)) checked-accepted in
-      cc
-
-pub checked-fits : (p : List ℕ) (h : Numbers) → Answer.Value (headerMeant h) ≡ checkPage p → SizesFit p h
-unfolding headerOf
-checked-fits p h e =
-    let a : Accepted p = accepted-pageRefusal p (checked-accepted p (headerMeant h) e) in
-    let s : headerMeant h ≡ headerOf p = checked-header p (headerMeant h) e in
-    let sn : h .n ≡ count p = ap (λ (x : Header). x .n) s in
-    record {
-      size = a .size;
-      number-is = ap (λ (x : Header). x .number) s;
-      n-is = sn;
-      m-is = ap (λ (x : Header). x .m) s;
-      q-is = ap (λ (x : Header). x .q) s;
-      bits-is = ap (λ (x : Header). x .bits) s;
-      entry = subst (λ (n : ℕ). 1 ≤ n) (sym sn) (a .entry);
-      compresses = subst (λ (n : ℕ). 1 ≤ n) (sym (ap (λ (x : Header). x .m) s)) (a .compresses);
-      no-more = omega (arith, ap (λ (x : Header). x .m) s, sn, a .compresses-no-more);
-      prefix = subst (λ (n : ℕ). n ≤ 256) (sym (ap (λ (x : Header). x .q) s)) (a .prefix);
-      entries-fit = omega (arith, sn, a .entries-fit);
-      fits = a .fits;
-    }
-
--- ---- a refusal
-
-pub checked-refused : (p : List ℕ) (r : ℕ) → Answer.Refused r ≡ checkPage p → (pageRefusal p ≡ r) × (0 < r)
-unfolding checkPage unless
-checked-refused p r e = go (pageRefusal p) refl
-  where
-    go : (n : ℕ) → pageRefusal p ≡ n → (pageRefusal p ≡ r) × (0 < r)
-    go zero q =
-        let f : Answer.Refused r ≡ Answer.Value (headerOf p) = e ∙ ap (λ (k : ℕ). unless k (headerOf p)) q in
-        let z : _≡_ {A = ℕ} 0 1 = cc in
-        absurd (omega arith)
-    go (suc n) q =
-        let f : Answer.Refused r ≡ Answer.Refused (suc n) = e ∙ ap (λ (k : ℕ). unless k (headerOf p)) q in
-        let s : r ≡ suc n = cc in
-        (q ∙ sym s, omega arith)
+use Rattle.node.specs.Reader.{loaded}
 
 -- ---- rows that are filled one behind the other
 

@@ -1,19 +1,11 @@
-// The checking reader of a page of 4,096 bytes.
-//     OFFSET       SIZE    WHAT
-//          0          4    page number
-//          4          2    n, the count of entries
-//          6          2    m, how many of them leave out the prefix
-//          8          2    q, the prefix's length in bits
-//         10         2n    where each separator ends, in bits from the prefix's end
-//    10 + 2n         ..    q bits of prefix, the separators with no gap, and ignored bits
-//  4096 - 4n         4n    the pointers
-// Numbers are little-endian, bits most significant first. Entry i is the prefix, if i < m, its
-// separator, and zero bits up to 256. Any bytes may come: nothing is read outside the page.
+// The checking reader of a page of 4,096 bytes: keys and pointers, the refusals 8 and 16. What a page
+// holds, and the refusals before: `shape`. Entry i is the prefix, if i < m, its separator, and zero
+// bits up to 256. Any bytes may come: nothing is read outside the page.
 // What a page means: format's specs/Page.antt. What the answers mean: specs/Reader.antt.
 ghost use mathlib.Core.Path.{_≡_};
 ghost use mathlib.Core.Bool.{cond, not, _||_};
-ghost use Prim.Native.Nat.{_<_, _≤_};
-ghost use lib.Dec.{eqb, ltb};
+ghost use Prim.Native.Nat.{_<_};
+ghost use lib.Dec.{eqb};
 ghost use lib.ListN.{take};
 ghost use Rattle.format.specs.Answer.{afterwards};
 ghost use Rattle.format.specs.Bits.{fill, pack};
@@ -31,58 +23,24 @@ ghost use Rattle.format.specs.Page.{
 };
 ghost use Rattle.keys.specs.Keys.{keyBits};
 ghost use Rattle.rows.specs.Rows.{withRows};
+ghost use Rattle.shape.specs.Shape.{SizesFit, checkedAnswer, unordered};
 ghost use Rattle.node.specs.Reader.{
-  Shaping,
-  SizesFit,
-  Sizing,
-  checkedAnswer,
   entryAnswer,
   keyBytes,
   loaded,
   pointerRead,
-  unordered,
 };
 use format::layout;
 use format::refusal::Refusal;
 use keys::Key;
 use rows::table;
-
-// What a page's header says, and how many bits prefix and separators have.
-pub struct Header {
-    pub number: u64,
-    pub n: usize,
-    pub m: usize,
-    pub q: usize,
-    pub bits: usize,
-}
-
-// What checking a page answers: its header, or one of 1 to 8.
-pub enum Checked {
-    Page(Header),
-    Refused(Refusal),
-}
+use shape::Checked;
+use shape::Header;
 
 // What reading an entry answers: its pointer, or one of 1 to 8, or 16.
 pub enum EntryRead {
     Pointer(u64),
     Refused(Refusal),
-}
-
-// Where separator i ends, in bits from the prefix's end; 0 where the page has no such bytes.
-pub fn cell(page: &[u8], i: usize) -> usize
-    ensures answer { λ r. ⌜ (r ≡ endOf (now (page .entry)) i) × (r < 65536) ⌝ }
-{
-    if page.len() / 2 < i {
-        return 0;
-    }
-    numbers::le_u16(page, layout::HEADER_SIZE + 2 * i)
-}
-
-// Where separator i starts.
-pub fn start_offset(page: &[u8], i: usize) -> usize
-    ensures answer { λ r. ⌜ (r ≡ startOf (now (page .entry)) i) × (r < 65536) ⌝ }
-{
-    if i == 0 { 0 } else { cell(page, i - 1) }
 }
 
 // The pointer of entry i of a page whose header fits it.
@@ -91,51 +49,6 @@ fn node_pointer(page: &[u8], h: Header, i: usize) -> u64
     ensures answer { λ r. ⌜ r ≡ pointerOf (now (page .entry)) i ⌝ }
 {
     numbers::le_u32(page, layout::PAGE_SIZE - 4 * h.n + 4 * i)
-}
-
-// How many bits of entry i are the prefix's.
-fn prefix_bits(h: Header, i: usize) -> usize
-    ensures answer { λ r. ⌜ (r ≡ cond (ltb i (h .m)) (h .q) 0) × (r ≤ h .q) ⌝ }
-{
-    if i < h.m { h.q } else { 0 }
-}
-
-// Whether an entry of so many bits has none, or more than a key, or one before it had.
-fn misfits(bits: usize, found: bool) -> bool
-    ensures answer { λ r. ⌜ r ≡ (eqb bits 0 || ltb 256 bits) || found ⌝ }
-{
-    if bits == 0 {
-        return true;
-    }
-    if 256 < bits {
-        return true;
-    }
-    found
-}
-
-// Refusals 6 and 7, or the header. An end offset that falls comes first, so that the pass goes on
-// where an entry does not fit.
-fn fitted(page: &[u8], h: Header) -> Checked
-    requires { ⌜ SizesFit (now page) h ⌝ }
-    ensures answer { λ r. ⌜ Shaping (now (page .entry)) r ⌝ }
-{
-    let n = h.n;
-    let mut before: usize = 0;
-    let mut found = false;
-    let mut i: usize = 0;
-    while i < n {
-        let end = cell(page, i);
-        if end < before {
-            return Checked::Refused(Refusal::OffsetsFall);
-        }
-        found = misfits(prefix_bits(h, i) + (end - before), found);
-        before = end;
-        i += 1;
-    }
-    if found {
-        return Checked::Refused(Refusal::EntryBits);
-    }
-    Checked::Page(h)
 }
 
 // The prefix, and zeros.
@@ -157,7 +70,7 @@ fn get_key(page: &[u8], h: Header, prefix: Key, i: usize, start: usize, end: usi
 {
     let len = numbers::over(end, start);
     let bit = 8 * (layout::HEADER_SIZE + 2 * h.n) + h.q + start;
-    prefix.with_bits(prefix_bits(h, i), page, bit, len)
+    prefix.with_bits(shape::prefix_bits(h, i), page, bit, len)
 }
 
 // The same, for a loop over all entries.
@@ -169,7 +82,7 @@ fn next_key(page: &[u8], h: Header, prefix: Key, i: usize, start: usize, end: us
 {
     let len = numbers::over(end, start);
     let bit = 8 * (layout::HEADER_SIZE + 2 * h.n) + h.q + start;
-    prefix.with_few_bits(prefix_bits(h, i), page, bit, len)
+    prefix.with_few_bits(shape::prefix_bits(h, i), page, bit, len)
 }
 
 // Whether key i is not above the one before it, if there is one, or one before it was not.
@@ -184,55 +97,6 @@ fn unrisen(i: usize, before: Key, key: Key, found: bool) -> bool
         return true;
     }
     found
-}
-
-// Refusals 1 to 5, or the header.
-fn sized(page: &[u8]) -> Checked
-    ensures answer { λ r. ⌜ Sizing (now (page .entry)) r ⌝ }
-{
-    if page.len() != layout::PAGE_SIZE {
-        return Checked::Refused(Refusal::PageLength);
-    }
-    let n = numbers::le_u16(page, 4);
-    if n == 0 {
-        return Checked::Refused(Refusal::NoEntries);
-    }
-    let m = numbers::le_u16(page, 6);
-    if m == 0 {
-        return Checked::Refused(Refusal::CompressedCount);
-    }
-    if n < m {
-        return Checked::Refused(Refusal::CompressedCount);
-    }
-    let q = numbers::le_u16(page, 8);
-    if 256 < q {
-        return Checked::Refused(Refusal::PrefixLength);
-    }
-    if layout::BODY_SIZE < 6 * n {
-        return Checked::Refused(Refusal::BodyTooLong);
-    }
-    let bits = q + cell(page, n - 1);
-    if layout::BODY_SIZE < 6 * n + (bits + 7) / 8 {
-        return Checked::Refused(Refusal::BodyTooLong);
-    }
-    let number = numbers::le_u32(page, 0);
-    Checked::Page(Header {
-        number,
-        n,
-        m,
-        q,
-        bits,
-    })
-}
-
-// Refusals 1 to 7, or the header.
-fn shaped(page: &[u8]) -> Checked
-    ensures answer { λ r. ⌜ Shaping (now (page .entry)) r ⌝ }
-{
-    match sized(page) {
-        Checked::Refused(r) => Checked::Refused(r),
-        Checked::Page(h) => fitted(page, h),
-    }
 }
 
 // All entries into the rows of a table, with their positions. Refusal 8: whether the keys are not
@@ -250,7 +114,7 @@ fn load_rows(page: &[u8], h: Header, t: &mut [u64]) -> bool
     let mut found = false;
     let mut i: usize = 0;
     while i < n {
-        let end = cell(page, i);
+        let end = shape::cell(page, i);
         let key = next_key(page, h, shared, i, start, end);
         table::set_row(t, i, key, node_pointer(page, h, i), i as u64);
         found = unrisen(i, before, key, found);
@@ -269,7 +133,7 @@ pub fn load_page(page: &[u8], t: &mut [u64]) -> Checked
     ensures answer { λ r. ⌜ checkedAnswer r ≡ checkPage (now (page .entry)) ⌝ }
     ensures written { λ _. ⌜ now (t .exit) ≡ loaded (now (page .entry)) (now (t .entry)) ⌝ }
 {
-    match shaped(page) {
+    match shape::shaped(page) {
         Checked::Refused(r) => Checked::Refused(r),
         Checked::Page(h) => {
             if load_rows(page, h, t) {
@@ -295,8 +159,8 @@ fn copy_entry(page: &[u8], h: Header, i: usize, key_out: &mut [u8; 32]) -> u64
     ensures answer { λ r. ⌜ r ≡ pointerOf (now (page .entry)) i ⌝ }
     ensures written { λ _. ⌜ now («key_out» .exit) ≡ pack 32 (keyOf (now (page .entry)) i) ⌝ }
 {
-    let start = start_offset(page, i);
-    let key = get_key(page, h, prefix(page, h), i, start, cell(page, i));
+    let start = shape::start_offset(page, i);
+    let key = get_key(page, h, prefix(page, h), i, start, shape::cell(page, i));
     key.to_bytes(key_out);
     node_pointer(page, h, i)
 }

@@ -13,7 +13,7 @@ use lib.ListN.{length-append, length-drop}
 use borrow.Author.Tests.{le-leb, lt-leb, ne-eqb}
 use lib.Seq.{drop-append-add, drop-append-le, drop-at, drop-drop, paste, paste-zero, take-all, take-append-add, take-append-le, take-paste, take-suc-set}
 use Rattle.format.specs.Answer.{afterwards, first, unless}
-use Rattle.format.specs.Bits.{bits, bitsOf, fill, pack}
+use Rattle.format.specs.Bits.{bits, bitsOf, fill, pack, bytesFor}
 use Rattle.format.specs.Key.{IsKey}
 use Rattle.format.specs.Ranges.{bitCopy, bitsCopied, inside}
 use Rattle.format.specs.declared.refusal.Outcome.{Outcome}
@@ -234,19 +234,23 @@ module _ (d : List ℕ) (at n x : ℕ) where
       ∙ pack-bitsOf d (at-below 256 d (λ i. omega (arith, b i)))))
 
   -- of bits that are not there,
-  pub first-past : (n ≡ 0 → ⊥) → length d < at / 8 + (at % 8 + n + 7) / 8 → d ≡ withFirst d at n x
-  unfolding withFirst inside
-  first-past z h =
+  pub first-past : (s : ℕ) → (n ≡ 0 → ⊥) → s ≡ bytesFor (at + n) → length d < s → d ≡ withFirst d at n x
+  unfolding withFirst inside bytesFor
+  first-past s z e h =
       let l : 8 * length d < at + n = omega arith in
       rw (ne-eqb n 0 z, lt-leb (at + n) (8 * length d) l)
 
   -- and of bits that are
-  pub first-put : (d′ : List ℕ) → at / 8 + (at % 8 + n + 7) / 8 ≤ length d
+  pub first-room : (s : ℕ) → s ≡ bytesFor (at + n) → s ≤ length d → at + n ≤ 8 * length d
+  unfolding bytesFor
+  first-room s e h = omega arith
+
+  pub first-put : (s : ℕ) (d′ : List ℕ) → s ≡ bytesFor (at + n) → s ≤ length d
       → bitsOf d′ ≡ paste (bitsOf d) at (bits 64 x) n
       → length d′ ≡ length d → ((i : ℕ) → Fits w8 (getD d′ i 0)) → d′ ≡ withFirst d at n x
   unfolding withFirst
-  first-put d′ h e l b =
-      let q : inside (length d) at n ≡ true = end-inside (length d) at n (omega arith) in
+  first-put s d′ es h e l b =
+      let q : inside (length d) at n ≡ true = end-inside (length d) at n (first-room s es h) in
       rw q (packed d′ (paste (bitsOf d) at (bits 64 x) n) (at-below 256 d′ (λ i. omega (arith, b i))) e
       ∙ ap (λ (m : ℕ). pack m (paste (bitsOf d) at (bits 64 x) n)) l)
 

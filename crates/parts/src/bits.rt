@@ -61,7 +61,7 @@ fn put_first(d: &mut [u8], at: usize, x: u64, n: usize)
     if n == 0 {
         return;
     }
-    if d.len() < at / 8 + (at % 8 + n + 7) / 8 {
+    if d.len() < numbers::bytes_for(at, n) {
         return;
     }
     put_word(d, at, x, n);

@@ -17,7 +17,7 @@ use build::Numbers;
 use format::refusal::Refusal;
 use libc::STDERR_FILENO;
 use node::reader;
-use node::reader::Checked;
+use shape::Checked;
 
 // How a file is looked at.
 enum Look {

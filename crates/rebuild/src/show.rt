@@ -2,16 +2,13 @@
 use crate::say;
 use libc::STDOUT_FILENO;
 use node::reader;
-use node::reader::Checked;
-use node::reader::Header;
+use shape::Checked;
+use shape::Header;
 use view::Seen;
 
 // How many bits entry i stores.
 fn stored(page: &[u8], i: usize) -> usize {
-    if i == 0 {
-        return reader::cell(page, 0);
-    }
-    numbers::over(reader::cell(page, i), reader::cell(page, i - 1))
+    numbers::over(shape::cell(page, i), shape::start_offset(page, i))
 }
 
 // Entry i: its index, compressed or plain, its stored bits, its key and its pointer. Whether it was

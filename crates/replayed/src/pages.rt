@@ -2,8 +2,8 @@
 // every byte of lent memory. A case that is not well formed did not.
 use crate::cases;
 use node::reader;
-use node::reader::Checked;
 use node::reader::EntryRead;
+use shape::Checked;
 use sizes::Size;
 ghost use Prim.Native.Nat.{_<_};
 

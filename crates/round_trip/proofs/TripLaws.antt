@@ -19,9 +19,11 @@ use Rattle.facts.proofs.AnswerLaws.{and-left, and-right}
 use Rattle.facts.proofs.BuildLaws.{Done, build-done}
 use Rattle.laws.specs.Builds.{Gives, Lent, Once}
 use Rattle.laws.proofs.Proved.{back, forth}
-use Rattle.node.specs.declared.reader.Header.{Header}
-use Rattle.node.specs.Reader.{SizesFit, headerMeant, loaded}
-use Rattle.node.proofs.LoadedLaws.{checked-accepted, checked-fits, checked-refused, loaded-rows}
+use Rattle.shape.specs.declared.Header.{Header}
+use Rattle.shape.specs.Shape.{SizesFit, headerMeant}
+use Rattle.node.specs.Reader.{loaded}
+use Rattle.shape.proofs.CheckedLaws.{checked-accepted, checked-fits, checked-refused}
+use Rattle.node.proofs.LoadedLaws.{loaded-rows}
 use Rattle.rows.specs.Rows.{rows}
 use Rattle.branch_ops.specs.Choice.{chosenOf}
 use Rattle.branch_ops.proofs.ChoiceLaws.{chosenOf-normal}

@@ -11,8 +11,8 @@ use build::Numbers;
 use builder::page;
 use format::refusal::Refusal;
 use node::reader;
-use node::reader::Checked;
-use node::reader::Header;
+use shape::Checked;
+use shape::Header;
 
 // What a round trip answers: the new page's numbers where all three builds agree, that they do not,
 // or the first build's refusal.

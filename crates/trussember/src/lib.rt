@@ -55,7 +55,7 @@ pub extern "C" fn trussember_check(page: &[u8]) -> Checked
     ensures answer { λ r. ⌜ r ≡ checkedTold (checkPage (now (page .entry))) ⌝ }
 {
     match reader::check(page) {
-        reader::Checked::Page(h) => Checked {
+        shape::Checked::Page(h) => Checked {
             refusal: 0,
             number: h.number,
             n: h.n as u64,
@@ -63,7 +63,7 @@ pub extern "C" fn trussember_check(page: &[u8]) -> Checked
             q: h.q as u64,
             bits: h.bits as u64,
         },
-        reader::Checked::Refused(why) => Checked {
+        shape::Checked::Refused(why) => Checked {
             refusal: refusals::number(why),
             number: 0,
             n: 0,

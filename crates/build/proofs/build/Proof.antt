@@ -1,11 +1,6 @@
 use borrow.Author.Needs.{needs}
 use Rattle.build.proofs.build.Statement.{statement}
 use Rattle.build.proofs.build.Tie as tie
-use Rattle.build.proofs.build.Reads as reads
-use Rattle.build.proofs.build.Lts as lts
-use Rattle.build.proofs.finish.Reads as finish-reads
-use Rattle.build.proofs.load_base.Reads as load-base-reads
-use Rattle.build.proofs.plan.Reads as plan-reads
 use mathlib.Core.List.{List, _++_}
 use mathlib.Core.Path.{_≡_, subst}
 use Prim.Native.Nat.{ℕ}
@@ -15,9 +10,9 @@ use Rattle.format.specs.Build.{build}
 use Rattle.format.specs.Normal.{normalPage}
 use Rattle.format.specs.Refusals.{refusalNumber}
 use Rattle.format.specs.declared.refusal.Refusal.{Refusal}
-use Rattle.node.specs.declared.reader.Header.{Header}
-use Rattle.node.specs.declared.reader.Checked.{Checked}
-use Rattle.node.specs.declared.reader.Checked.the-variants.{Page as Base, Refused as NoBase}
+use Rattle.shape.specs.declared.Header.{Header}
+use Rattle.shape.specs.declared.Checked.{Checked}
+use Rattle.shape.specs.declared.Checked.the-variants.{Page as Base, Refused as NoBase}
 use Rattle.rows.specs.Rows.{rows}
 use Rattle.build.specs.declared.Numbers.{Numbers}
 use Rattle.build.specs.declared.Built.{Built}

@@ -1,10 +1,6 @@
 use borrow.Author.Needs.{needs}
 use Rattle.build.proofs.finish.Statement.{statement}
 use Rattle.build.proofs.finish.Tie as tie
-use Rattle.build.proofs.finish.Reads as reads
-use Rattle.build.proofs.finish.Lts as lts
-use Rattle.builder.proofs.page.write_page_over.Reads as write-page-over-reads
-use Rattle.bytes.proofs.copy.Reads as copy-reads
 use mathlib.Core.List.{List, _++_}
 use mathlib.Core.Path.{_≡_, ap, ap₂, _∙_}
 use Prim.Native.Nat.{ℕ, _-_, _≤_}

@@ -1,9 +1,6 @@
 use borrow.Author.Needs.{needs}
 use Rattle.build.proofs.load_base.Statement.{statement}
 use Rattle.build.proofs.load_base.Tie as tie
-use Rattle.build.proofs.load_base.Reads as reads
-use Rattle.build.proofs.load_base.Lts as lts
-use Rattle.node.proofs.reader.load_page.Reads as load-page-reads
 use native.Mathlib.Omega.{arith}
 use Rattle.facts.proofs.BitsLaws.{at-below}
 use Rattle.build.proofs.LoadLaws.{no-base, base-known}

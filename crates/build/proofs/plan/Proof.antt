@@ -1,11 +1,6 @@
 use borrow.Author.Needs.{needs}
 use Rattle.build.proofs.plan.Statement.{statement}
 use Rattle.build.proofs.plan.Tie as tie
-use Rattle.build.proofs.plan.Reads as reads
-use Rattle.build.proofs.plan.Lts as lts
-use Rattle.branch_ops.proofs.choice.choose.Reads as choose-reads
-use Rattle.edits.proofs.apply.edit_rows.Reads as edit-rows-reads
-use Rattle.undo.proofs.write_undo.Reads as write-undo-reads
 use mathlib.Core.List.{List}
 use mathlib.Core.Path.{_≡_, sym, ap, subst, _∙_}
 use Prim.Native.Nat.{ℕ, _≤_, _<_}

@@ -1,10 +1,6 @@
 use borrow.Author.Needs.{needs}
 use Rattle.round_trip.proofs.brings_again.Statement.{statement}
 use Rattle.round_trip.proofs.brings_again.Tie as tie
-use Rattle.round_trip.proofs.brings_again.Reads as reads
-use Rattle.round_trip.proofs.brings_again.Lts as lts
-use Rattle.build.proofs.build.Reads as build-reads
-use Rattle.check.proofs.same.Reads as same-reads
 use mathlib.Core.Bool.{Bool, false, true}
 use mathlib.Core.List.{List}
 use mathlib.Core.Path.{_≡_, sym, ap, _∙_}

@@ -1,13 +1,6 @@
 use borrow.Author.Needs.{needs}
 use Rattle.round_trip.proofs.is_normal.Statement.{statement}
 use Rattle.round_trip.proofs.is_normal.Tie as tie
-use Rattle.round_trip.proofs.is_normal.Reads as reads
-use Rattle.round_trip.proofs.is_normal.Lts as lts
-use Rattle.branch_ops.proofs.choice.choose.Reads as choose-reads
-use Rattle.builder.proofs.page.write_page.Reads as write-page-reads
-use Rattle.check.proofs.same.Reads as same-reads
-use Rattle.node.proofs.reader.load_page.Reads as load-page-reads
-use Rattle.numbers.proofs.le_u32.Reads as le-u32-reads
 use mathlib.Core.Bool.{Bool, false, true}
 use mathlib.Core.List.{List}
 use mathlib.Core.Path.{_≡_, sym, ap, _∙_}
@@ -19,10 +12,11 @@ use Rattle.format.specs.Normal.{keys, pageUnder}
 use Rattle.format.specs.Page.{checkPage, pageNumber}
 use Rattle.format.specs.Refusals.{refusalNumber}
 use Rattle.format.specs.declared.refusal.Refusal.{Refusal}
-use Rattle.node.specs.declared.reader.Header.{Header}
-use Rattle.node.specs.declared.reader.Checked.{Checked}
-use Rattle.node.specs.declared.reader.Checked.the-variants.{Page, Refused}
-use Rattle.node.specs.Reader.{checkedAnswer, headerMeant, loaded}
+use Rattle.shape.specs.declared.Header.{Header}
+use Rattle.shape.specs.declared.Checked.{Checked}
+use Rattle.shape.specs.declared.Checked.the-variants.{Page, Refused}
+use Rattle.shape.specs.Shape.{checkedAnswer, headerMeant}
+use Rattle.node.specs.Reader.{loaded}
 use Rattle.rows.specs.Rows.{rows}
 use Rattle.branch_ops.specs.Choice.{choiceAnswer, chosenOf}
 use Rattle.branch_ops.specs.declared.choice.Choice.{Choice}

@@ -1,10 +1,6 @@
 use borrow.Author.Needs.{needs}
 use Rattle.round_trip.proofs.round_trip.Statement.{statement}
 use Rattle.round_trip.proofs.round_trip.Tie as tie
-use Rattle.round_trip.proofs.round_trip.Reads as reads
-use Rattle.round_trip.proofs.round_trip.Lts as lts
-use Rattle.build.proofs.build.Reads as build-reads
-use Rattle.round_trip.proofs.brings_back.Reads as brings-back-reads
 use mathlib.Core.Bool.{Bool, false, not, true}
 use mathlib.Core.List.{List}
 use mathlib.Core.Path.{_≡_, sym, ap, ap₂, subst, _∙_}

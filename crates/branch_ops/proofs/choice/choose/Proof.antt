@@ -74,14 +74,8 @@ loop-again c = search (needs, laws)
 over-requires : tie.Need-over-requires Inv-loop μ-loop
 over-requires c κs = search (needs, laws)
 
-mul-if3 : tie.Need-mul-if3 Inv-loop μ-loop
-mul-if3 c = search (needs, laws)
-
-add-if3 : tie.Need-add-if3 Inv-loop μ-loop
-add-if3 c = search (needs, laws)
-
-add-if3-2 : tie.Need-add-if3-2 Inv-loop μ-loop
-add-if3-2 c = search (needs, laws)
+body-fits-requires : tie.Need-body-fits-requires Inv-loop μ-loop
+body-fits-requires c κs = search (needs, laws)
 
 returns-3 : tie.Need-returns-3 Inv-loop μ-loop
 returns-3 c = search (needs, laws)
@@ -111,8 +105,6 @@ choose-spec =
     loop-less
     loop-again
     over-requires
-    mul-if3
-    add-if3
-    add-if3-2
+    body-fits-requires
     returns-3
     returns-4)

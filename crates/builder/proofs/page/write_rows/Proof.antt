@@ -23,17 +23,8 @@ returns-4 c = search (needs, laws)
 stored-sum-requires : tie.Need-stored-sum-requires
 stored-sum-requires c κs = search (needs, laws)
 
-mul-if5 : tie.Need-mul-if5
-mul-if5 c = search (needs, laws)
-
-add-if5 : tie.Need-add-if5
-add-if5 c = search (needs, laws)
-
-add-if5-2 : tie.Need-add-if5-2
-add-if5-2 c = search (needs, laws)
-
-add-if5-3 : tie.Need-add-if5-3
-add-if5-3 c = search (needs, laws)
+body-fits-requires : tie.Need-body-fits-requires
+body-fits-requires c κs = search (needs, laws)
 
 returns-5 : tie.Need-returns-5
 returns-5 c = search (needs, laws)
@@ -56,10 +47,7 @@ write-rows-spec =
     returns-3
     returns-4
     stored-sum-requires
-    mul-if5
-    add-if5
-    add-if5-2
-    add-if5-3
+    body-fits-requires
     returns-5
     put-page-requires
     same-length

@@ -17,11 +17,12 @@ use Rattle.facts.proofs.AcceptedLaws.{
   readEntry-outside,
   readEntry-refused,
 }
-use Rattle.node.specs.declared.reader.Header.{Header}
-use Rattle.node.specs.declared.reader.Checked.{Checked}
-use Rattle.node.specs.declared.reader.Checked.the-variants.{Page, Refused}
-use Rattle.node.specs.Reader.{SizesFit, checkedAnswer, headerMeant, keyBytes, pointerRead}
-use Rattle.node.proofs.LoadedLaws.{checked-accepted, checked-fits, checked-refused}
+use Rattle.shape.specs.declared.Header.{Header}
+use Rattle.shape.specs.declared.Checked.{Checked}
+use Rattle.shape.specs.declared.Checked.the-variants.{Page, Refused}
+use Rattle.shape.specs.Shape.{SizesFit, checkedAnswer, headerMeant}
+use Rattle.node.specs.Reader.{keyBytes, pointerRead}
+use Rattle.shape.proofs.CheckedLaws.{checked-accepted, checked-fits, checked-refused}
 use borrow.Author.Needs.{needs}
 use Rattle.node.proofs.reader.entry.Statement.{statement}
 use Rattle.node.proofs.reader.entry.Tie as tie

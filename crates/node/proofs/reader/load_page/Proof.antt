@@ -11,11 +11,12 @@ use Rattle.format.specs.Page.{checkPage, entries, keyOf}
 use Rattle.format.specs.Refusals.{refusalNumber}
 use Rattle.format.specs.declared.refusal.Refusal.{Refusal}
 use Rattle.rows.specs.Rows.{withRows}
-use Rattle.node.specs.declared.reader.Header.{Header}
-use Rattle.node.specs.declared.reader.Checked.{Checked}
-use Rattle.node.specs.declared.reader.Checked.the-variants.{Page, Refused}
-use Rattle.node.specs.Reader.{Early, ShapeFits, Shaping, SizesFit, headerMeant, loaded, unordered}
-use Rattle.node.proofs.TestsLaws.{refuse-8, accept}
+use Rattle.shape.specs.declared.Header.{Header}
+use Rattle.shape.specs.declared.Checked.{Checked}
+use Rattle.shape.specs.declared.Checked.the-variants.{Page, Refused}
+use Rattle.shape.specs.Shape.{Early, ShapeFits, Shaping, SizesFit, headerMeant, unordered}
+use Rattle.node.specs.Reader.{loaded}
+use Rattle.shape.proofs.TestsLaws.{refuse-8, accept}
 use Rattle.node.proofs.LoadedLaws.{loaded-refused, loaded-unordered, loaded-accepted}
 use borrow.Author.Needs.{needs}
 use Rattle.node.proofs.reader.load_page.Statement.{statement}

@@ -13,9 +13,10 @@ use Rattle.format.specs.Page.{each, entries, entryOf, keyOf, pointerOf, startOf
 use Rattle.keys.specs.declared.Key.{Key}
 use Rattle.keys.specs.Keys.{keyBits}
 use Rattle.rows.specs.Rows.{withRow, withRows}
-use Rattle.node.specs.declared.reader.Header.{Header}
-use Rattle.node.specs.Reader.{SizesFit, unordered}
-use Rattle.node.proofs.TestsLaws.{Rising, rising-none, rising-more, start-first, start-next}
+use Rattle.shape.specs.declared.Header.{Header}
+use Rattle.shape.specs.Shape.{SizesFit, unordered}
+use Rattle.shape.proofs.TestsLaws.{start-first, start-next}
+use Rattle.node.proofs.RisingLaws.{Rising, rising-none, rising-more}
 use Rattle.node.proofs.LoadedLaws.{Filled, filled-none, filled-more, filled-length, filled-all}
 use borrow.Author.Needs.{needs}
 use Rattle.node.proofs.reader.load_rows.Statement.{statement}

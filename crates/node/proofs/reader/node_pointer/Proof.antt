@@ -6,8 +6,8 @@ use Prim.Native.Nat.{ℕ, _+_, _-_, _*_}
 use lib.ListN.{take, drop}
 use Rattle.format.specs.Bits.{unle}
 use Rattle.format.specs.Page.{pointerOf}
-use Rattle.node.specs.declared.reader.Header.{Header}
-use Rattle.node.specs.Reader.{SizesFit}
+use Rattle.shape.specs.declared.Header.{Header}
+use Rattle.shape.specs.Shape.{SizesFit}
 use borrow.Author.Needs.{needs}
 use Rattle.node.proofs.reader.node_pointer.Statement.{statement}
 use Rattle.node.proofs.reader.node_pointer.Tie as tie

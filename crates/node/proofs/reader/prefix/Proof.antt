@@ -9,8 +9,8 @@ use Rattle.format.specs.Page.{body, count, prefixLength}
 use Rattle.words.proofs.WindowLaws.{drop-bitsOf}
 use Rattle.keys.specs.declared.Key.{Key}
 use Rattle.keys.specs.Keys.{keyBits}
-use Rattle.node.specs.declared.reader.Header.{Header}
-use Rattle.node.specs.Reader.{SizesFit}
+use Rattle.shape.specs.declared.Header.{Header}
+use Rattle.shape.specs.Shape.{SizesFit}
 use borrow.Author.Needs.{needs}
 use Rattle.node.proofs.reader.prefix.Statement.{statement}
 use Rattle.node.proofs.reader.prefix.Tie as tie

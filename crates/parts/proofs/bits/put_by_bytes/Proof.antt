@@ -3,10 +3,6 @@
 use borrow.Author.Needs.{needs}
 use Rattle.parts.proofs.bits.put_by_bytes.Statement.{statement}
 use Rattle.parts.proofs.bits.put_by_bytes.Tie as tie
-use Rattle.parts.proofs.bits.put_by_bytes.Reads as reads
-use Rattle.parts.proofs.bits.put_by_bytes.Lts as lts
-use Rattle.bit_copy.proofs.bitwise_memcpy.Reads as bitwise-memcpy-reads
-use Rattle.keys.proofs.Key.to_bytes.Reads as to-bytes-reads
 use Rattle.parts.proofs.BitLaws.{length-key, copied-key}
 
 ruleset laws = (length-key, copied-key)

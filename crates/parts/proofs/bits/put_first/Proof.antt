@@ -3,24 +3,15 @@
 use borrow.Author.Needs.{needs}
 use Rattle.parts.proofs.bits.put_first.Statement.{statement}
 use Rattle.parts.proofs.bits.put_first.Tie as tie
-use Rattle.parts.proofs.bits.put_first.Reads as reads
-use Rattle.parts.proofs.bits.put_first.Lts as lts
-use Rattle.parts.proofs.bits.put_word.Reads as put-word-reads
-use Rattle.parts.proofs.BitLaws.{first-none, first-past, first-put}
+use Rattle.parts.proofs.BitLaws.{first-none, first-past, first-room, first-put}
 
-ruleset laws = (first-none, first-past, first-put)
+ruleset laws = (first-none, first-past, first-room, first-put)
 
 returns : tie.Need-returns
 returns c = search (needs, laws)
 
-add-if2 : tie.Need-add-if2
-add-if2 c = search (needs, laws)
-
-add-if2-2 : tie.Need-add-if2-2
-add-if2-2 c = search (needs, laws)
-
-add-if2-3 : tie.Need-add-if2-3
-add-if2-3 c = search (needs, laws)
+bytes-for-requires : tie.Need-bytes-for-requires
+bytes-for-requires c κs = search (needs, laws)
 
 returns-2 : tie.Need-returns-2
 returns-2 c = search (needs, laws)
@@ -39,9 +30,7 @@ put-first-spec =
     tie.close
     (tie.spec
     returns
-    add-if2
-    add-if2-2
-    add-if2-3
+    bytes-for-requires
     returns-2
     put-word-requires
     same-length

@@ -3,9 +3,6 @@
 use borrow.Author.Needs.{needs}
 use Rattle.parts.proofs.bits.put_in_two.Statement.{statement}
 use Rattle.parts.proofs.bits.put_in_two.Tie as tie
-use Rattle.parts.proofs.bits.put_in_two.Reads as reads
-use Rattle.parts.proofs.bits.put_in_two.Lts as lts
-use Rattle.parts.proofs.bits.put_in_word.Reads as put-in-word-reads
 use Rattle.parts.proofs.BitLaws.{in-two}
 
 ruleset laws = (in-two)

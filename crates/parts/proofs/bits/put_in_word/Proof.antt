@@ -3,12 +3,6 @@
 use borrow.Author.Needs.{needs}
 use Rattle.parts.proofs.bits.put_in_word.Statement.{statement}
 use Rattle.parts.proofs.bits.put_in_word.Tie as tie
-use Rattle.parts.proofs.bits.put_in_word.Reads as reads
-use Rattle.parts.proofs.bits.put_in_word.Lts as lts
-use Rattle.words.proofs.joined.Reads as joined-reads
-use Rattle.words.proofs.spliced.Reads as spliced-reads
-use Rattle.words.proofs.store.Reads as store-reads
-use Rattle.words.proofs.word_at.Reads as word-at-reads
 use Rattle.parts.proofs.BitLaws.{in-word}
 
 ruleset laws = (in-word)

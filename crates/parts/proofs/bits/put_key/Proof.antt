@@ -3,12 +3,6 @@
 use borrow.Author.Needs.{needs}
 use Rattle.parts.proofs.bits.put_key.Statement.{statement}
 use Rattle.parts.proofs.bits.put_key.Tie as tie
-use Rattle.parts.proofs.bits.put_key.Reads as reads
-use Rattle.parts.proofs.bits.put_key.Lts as lts
-use Rattle.parts.proofs.bits.put_by_bytes.Reads as put-by-bytes-reads
-use Rattle.parts.proofs.bits.put_first.Reads as put-first-reads
-use Rattle.parts.proofs.bits.put_whole.Reads as put-whole-reads
-use Rattle.numbers.proofs.over.Reads as over-reads
 use Rattle.parts.proofs.BitLaws.{key-first, key-whole}
 
 ruleset laws = (key-first, key-whole)

@@ -3,9 +3,6 @@
 use borrow.Author.Needs.{needs}
 use Rattle.parts.proofs.bits.put_number.Statement.{statement}
 use Rattle.parts.proofs.bits.put_number.Tie as tie
-use Rattle.parts.proofs.bits.put_number.Reads as reads
-use Rattle.parts.proofs.bits.put_number.Lts as lts
-use Rattle.parts.proofs.bits.put_first.Reads as put-first-reads
 use Rattle.parts.proofs.BitLaws.{number-many, number-none, number-put}
 
 ruleset laws = (number-many, number-none, number-put)

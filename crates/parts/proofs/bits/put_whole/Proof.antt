@@ -3,11 +3,6 @@
 use borrow.Author.Needs.{needs}
 use Rattle.parts.proofs.bits.put_whole.Statement.{statement}
 use Rattle.parts.proofs.bits.put_whole.Tie as tie
-use Rattle.parts.proofs.bits.put_whole.Reads as reads
-use Rattle.parts.proofs.bits.put_whole.Lts as lts
-use Rattle.parts.proofs.bits.put_in_word.Reads as put-in-word-reads
-use Rattle.words.proofs.across.Reads as across-reads
-use Rattle.words.proofs.store.Reads as store-reads
 use Rattle.parts.proofs.BitLaws.{whole-key}
 
 sub-put-in-word : tie.Need-sub-put-in-word

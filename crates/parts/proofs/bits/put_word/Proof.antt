@@ -3,12 +3,6 @@
 use borrow.Author.Needs.{needs}
 use Rattle.parts.proofs.bits.put_word.Statement.{statement}
 use Rattle.parts.proofs.bits.put_word.Tie as tie
-use Rattle.parts.proofs.bits.put_word.Reads as reads
-use Rattle.parts.proofs.bits.put_word.Lts as lts
-use Rattle.bit_copy.proofs.bitwise_memcpy.Reads as bitwise-memcpy-reads
-use Rattle.parts.proofs.bits.put_in_two.Reads as put-in-two-reads
-use Rattle.numbers.proofs.over.Reads as over-reads
-use Rattle.words.proofs.store.Reads as store-reads
 use Rattle.parts.proofs.BitLaws.{at-word, by-bytes}
 
 ruleset laws = (at-word, by-bytes)

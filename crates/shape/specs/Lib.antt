@@ -1,0 +1,2 @@
+-- What the contracts of `shape` cite, as definitions.
+pub mod Shape

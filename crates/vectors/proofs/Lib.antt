@@ -1,0 +1,2 @@
+-- The outside cases.
+pub mod Vectors

@@ -1,0 +1,1 @@
+-- Nothing is defined here: the cases in proofs/ are about the definitions of `format`.
