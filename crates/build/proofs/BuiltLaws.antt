@@ -28,6 +28,7 @@ use Rattle.builder.specs.Over.{pageOver, usable}
 use Rattle.builder.specs.Writes.{Wrote}
 use Rattle.builder.proofs.BaseLaws.{wrote-based}
 use Rattle.builder.proofs.WriteLaws.{wrote-none, wrote-normal}
+use Rattle.build.specs.declared.Numbers.{Numbers as CodeNumbers}
 use Rattle.build.specs.Built.{Held, Old, Planned, Ready, changeTests, numbersMeant}
 
 -- what a build answers and leaves

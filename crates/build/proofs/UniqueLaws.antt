@@ -4,6 +4,7 @@ use mathlib.Core.Path.{_≡_, sym, ap}
 use Rattle.format.specs.Answer.{Answer}
 use Rattle.format.specs.Build.{Numbers}
 use Rattle.facts.proofs.RefusalLaws.{refused-same, value-refused, valueOr}
+use Rattle.build.specs.declared.Numbers.{Numbers as CodeNumbers}
 use Rattle.build.specs.declared.Built.{Built}
 use Rattle.build.specs.declared.Built.the-variants.{Page, Refused}
 use Rattle.build.specs.Built.{builtAnswer, numbersMeant}

@@ -12,6 +12,7 @@ use Rattle.format.specs.Answer.{Answer, unless}
 use Rattle.format.specs.Page.{Header, checkPage, count, headerOf, keyOf, pageRefusal}
 use Rattle.format.specs.Refusals.{refusalNumber}
 use Rattle.facts.proofs.AcceptedLaws.{Accepted, accepted-pageRefusal}
+use Rattle.shape.specs.declared.Header.{Header as Numbers}
 use Rattle.shape.specs.declared.Checked.{Checked}
 use Rattle.shape.specs.declared.Checked.the-variants.{Page, Refused}
 use Rattle.shape.specs.Shape.{Early, ShapeFits, Shaping, SizesFit, checkShape, checkedAnswer, headerMeant, unordered}

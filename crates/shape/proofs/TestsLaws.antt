@@ -33,6 +33,7 @@ use Rattle.format.specs.Page.{
 }
 use Rattle.facts.proofs.AnswerLaws.{or-false}
 use Rattle.facts.proofs.PageLaws.{startOf-zero, startOf-suc}
+use Rattle.shape.specs.declared.Header.{Header as Numbers}
 use Rattle.shape.specs.Shape.{Early, ShapeFits, SizesFit, falling, headerMeant, misfit, unordered}
 
 -- ---- some

@@ -4,6 +4,7 @@ use mathlib.Core.Path.{_≡_, sym, ap}
 use Rattle.format.specs.Answer.{Answer}
 use Rattle.format.specs.Page.{Header}
 use Rattle.facts.proofs.RefusalLaws.{refused-same, value-refused, valueOr}
+use Rattle.shape.specs.declared.Header.{Header as Numbers}
 use Rattle.shape.specs.declared.Checked.{Checked}
 use Rattle.shape.specs.declared.Checked.the-variants.{Page, Refused}
 use Rattle.shape.specs.Shape.{checkedAnswer, headerMeant}

@@ -12,12 +12,18 @@ use Rattle.format.specs.declared.refusal.Refusal.{Refusal}
 use Rattle.format.specs.declared.refusal.Outcome.{Outcome}
 use Rattle.format.specs.declared.refusal.Outcome.the-variants.{Refused}
 use Rattle.build.specs.Built.{builtAnswer}
+use Rattle.build.specs.declared.Numbers.{Numbers as Made}
+use Rattle.build.specs.declared.Built.{Built as PageBuilt}
 use Rattle.build.specs.declared.Built.the-variants.{Page as PageMade, Refused as NotBuilt}
 use Rattle.shape.specs.Shape.{checkedAnswer}
 use Rattle.node.specs.Reader.{entryAnswer}
 use Rattle.sizes.specs.Sizes.{sizeAnswer}
+use Rattle.shape.specs.declared.Header.{Header as PageHeader}
+use Rattle.shape.specs.declared.Checked.{Checked as PageChecked}
 use Rattle.shape.specs.declared.Checked.the-variants.{Page, Refused as PageRefused}
+use Rattle.node.specs.declared.reader.EntryRead.{EntryRead as PageRead}
 use Rattle.node.specs.declared.reader.EntryRead.the-variants.{Pointer, Refused as NotRead}
+use Rattle.sizes.specs.declared.Size.{Size as Sized}
 use Rattle.sizes.specs.declared.Size.the-variants.{Is, Refused as NotSized}
 use Rattle.trussember.specs.declared.answers.Built.{Built}
 use Rattle.trussember.specs.declared.answers.Checked.{Checked}

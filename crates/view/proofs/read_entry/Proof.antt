@@ -50,10 +50,13 @@ use Rattle.view.proofs.Seen as S
 use Rattle.view.proofs.Seen.Laws as S′
 use Rattle.view.proofs.BranchNodeView.from_slice as made-of
 use Rattle.view.proofs.BranchNodeView.from_slice.Symbol as made-of-def
+use Rattle.view.proofs.BranchNodeView.from_slice.Symbol.{name as #from-slice}
 use Rattle.view.proofs.BranchNodeView.from_slice.Met as made-of-thm
 use Rattle.view.proofs.BranchNodeView.entry as entry
 use Rattle.view.proofs.BranchNodeView.entry.Symbol as entry-def
+use Rattle.view.proofs.BranchNodeView.entry.Symbol.{name as #entry}
 use Rattle.view.proofs.BranchNodeView.entry.Met as entry-thm
+use Rattle.view.proofs.read_entry.Key.{name as #read-entry}
 use Rattle.view.proofs.read_entry as read-entry
 use Rattle.view.proofs.read_entry.Statement as stated
 use Rattle.view.proofs.read_entry.Code as code

@@ -36,6 +36,7 @@ use denote.Exit.{yes}
 use Rattle.view.specs.declared.BranchNodeView.{BranchNodeView}
 use Rattle.view.proofs.BranchNodeView as T
 use Rattle.view.proofs.BranchNodeView.Laws as T′
+use Rattle.view.proofs.BranchNodeView.from_slice.Key.{name as #from-slice}
 use Rattle.view.proofs.BranchNodeView.from_slice as made-of
 use Rattle.view.proofs.BranchNodeView.from_slice.Statement as stated
 use Rattle.view.proofs.BranchNodeView.from_slice.Code as code
