@@ -3,3 +3,4 @@ pub mod ChoiceLaws
 pub mod PutLaws
 pub mod WriterLaws
 pub mod Cases
+pub mod UniqueLaws
