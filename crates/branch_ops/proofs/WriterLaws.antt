@@ -19,7 +19,7 @@ use Rattle.format.specs.Bits.{bits, bitsOf, pack, bytesFor, AllBelow}
 use Rattle.format.specs.Edit.{Edit, WellFormed, AllWellFormed, editBits, editsBits, recordOf}
 use Rattle.format.specs.Edit.Edit.{Insert, Update, Keep}
 use Rattle.facts.proofs.BitsLaws.{allBelow-append, allBelow-bits, allBelow-bitsOf, allBelow-drop, allBelow-pack, allBelow-replicate, allBelow-take, bitsOf-append, bytesFor-holds, bytesFor-least, bytesFor-mono, bytesFor-slack, length-bits, length-bitsOf, length-pack, pack-zeros, packed}
-use Rattle.facts.proofs.RecordLaws.{editsBits-append, headed, recordOf-pack, length-editBits}
+use Rattle.facts.proofs.RecordLaws.{allBelow-editBits, editsBits-append, headed, recordOf-pack, length-editBits}
 use Rattle.words.proofs.NumberLaws.{bits-zero}
 use Rattle.words.proofs.WindowLaws.{drop-append, drop-take}
 use Rattle.parts.specs.Parts.{withNumber}
@@ -235,18 +235,6 @@ editsBits-one : (e : Edit) → editsBits (e ∷ []) ≡ editBits e
 unfolding editsBits
 editsBits-one e = append-nil (editBits e)
 
-allBelow-edit : (e : Edit) → WellFormed e → AllBelow 2 (editBits e)
-unfolding editBits
-allBelow-edit (Insert k p) f =
-    allBelow-append 2 (bits 2 0 ++ k) (bits 32 p) (allBelow-append 2 (bits 2 0) k (allBelow-bits 2 0) (f .0 .bits))
-    (allBelow-bits 32 p)
-allBelow-edit (Update i p) f =
-    allBelow-append 2 (bits 2 1 ++ bits 10 i) (bits 32 p)
-    (allBelow-append 2 (bits 2 1) (bits 10 i) (allBelow-bits 2 1) (allBelow-bits 10 i)) (allBelow-bits 32 p)
-allBelow-edit (Keep s e) f =
-    allBelow-append 2 (bits 2 2 ++ bits 10 s) (bits 10 e)
-    (allBelow-append 2 (bits 2 2) (bits 10 s) (allBelow-bits 2 2) (allBelow-bits 10 s)) (allBelow-bits 10 e)
-
 edit-most : (e : Edit) → WellFormed e → length (editBits e) ≤ 290
 edit-most (Insert k p) f = omega (arith, length-editBits (Insert k p) f)
 edit-most (Update i p) f = omega (arith, length-editBits (Update i p) f)
@@ -272,7 +260,7 @@ module _ (d : List ℕ) (w : RecordWriter) (es : List Edit) (h : Holds d w es) (
   unfolding withBits
   holds-push e g u v =
       let r : hasRoom w d e ≡ true = room-holds e g u v in
-      let b : AllBelow 2 (editBits e) = allBelow-edit e g in
+      let b : AllBelow 2 (editBits e) = allBelow-editBits e g in
       let m : w .bit + length (editBits e) ≤ 8 * length d =
       omega (arith, bytesFor-holds (w .bit + length (editBits e))) in
       let n : ℕ = length (editBits e) in

@@ -17,7 +17,8 @@ use Rattle.facts.proofs.StoredLaws.{sum-take-le, sum-take-suc}
 use Rattle.rows.specs.Rows.{rowKey}
 use Rattle.parts.specs.Parts.{leftOut, rowLengths, cleared, withKey}
 use Rattle.parts.proofs.BitLaws.{bitsOf-withKey}
-use Rattle.parts.proofs.RowLaws.{isKey-row, length-rowLengths, rowLengths-at}
+use Rattle.rows.proofs.RowsLaws.{isKey-rowKey}
+use Rattle.parts.proofs.RowLaws.{length-rowLengths, rowLengths-at}
 use Rattle.builder.specs.Writes.{ownBits, rowsBits, rowBits, Pushed}
 use Rattle.builder.proofs.RowLaws.{rowsBits-next}
 
@@ -35,10 +36,10 @@ module _ (f : ℕ → List ℕ) (t : List ℕ) (n m q : ℕ) where
       → Pushed f t n m q (length part) part bit i
   unfolding rowBits sum
   pushed-start part₀ part k bit i hn hf hq hl hr ek ep el eb ei =
-      let lk : q ≤ length k = omega (arith, ap length ek, isKey-row t 0 .size) in
+      let lk : q ≤ length k = omega (arith, ap length ek, isKey-rowKey t 0 .size) in
       let a : q + bit ≡ 0 + q = omega arith in
       let b : n - i ≡ n = omega arith in
-      let y : IsKey k = subst IsKey (sym ek) (isKey-row t 0) in
+      let y : IsKey k = subst IsKey (sym ek) (isKey-rowKey t 0) in
       let p : take (0 + q) (bitsOf part) ≡ take q (rowKey t 0) =
       ap (take (0 + q)) (ap bitsOf ep ∙ bitsOf-withKey part₀ 0 k 0 q y (omega arith) (omega arith))
       ∙ take-paste (bitsOf part₀) 0 k q (omega arith) lk ∙ ap (take q) ek in
@@ -109,9 +110,9 @@ module _ (f : ℕ → List ℕ) (t : List ℕ) (n m q : ℕ) where
     pushed-more part′ bit′ i′ k h ef e ei eb ep el =
         let o : ℕ = leftOut m q i in
         let a : i′ ≡ suc i = omega arith in
-        let lk : length k ≡ 256 = ap length e ∙ isKey-row t i .size in
+        let lk : length k ≡ 256 = ap length e ∙ isKey-rowKey t i .size in
         let sk : separatorLength k ≤ 256 =
-        subst (λ (y : List ℕ). separatorLength y ≤ 256) (sym e) (separatorLength-bound (rowKey t i) (isKey-row t i)) in
+        subst (λ (y : List ℕ). separatorLength y ≤ 256) (sym e) (separatorLength-bound (rowKey t i) (isKey-rowKey t i)) in
         let r : take (separatorLength k - o) (drop o k) ++ rowsBits f (n - suc i) (suc i) ≡ rowsBits f (n - i) i =
         ap (λ (l : List ℕ). l ++ rowsBits f (n - suc i) (suc i))
         (ap (λ (y : List ℕ). take (separatorLength y - o) (drop o y)) e ∙ sym ef)

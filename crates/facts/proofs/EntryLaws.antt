@@ -116,6 +116,11 @@ unfoldable pub AreKeys : List (List ℕ) → Type 0
 AreKeys [] = Unit {0}
 AreKeys (k ∷ ks) = IsKey k × AreKeys ks
 
+pub areKeys-each : (n : ℕ) (f : ℕ → Entry) → ((i : ℕ) → IsKey (f i .key)) → AreKeys (keys (each n f))
+unfolding AreKeys keys each
+areKeys-each zero f y = tt
+areKeys-each (suc n) f y = (y 0, areKeys-each n (λ i. f (suc i)) (λ i. y (suc i)))
+
 pub areKeys-at : (ks : List (List ℕ)) (i : ℕ) → AreKeys ks → i < length ks → IsKey (getD ks i [])
 unfolding AreKeys
 areKeys-at [] i y h = absurd (not-suc-le-zero h)

@@ -30,7 +30,7 @@ unfoldable pub editsSize : List Edit → ℕ
 editsSize [] = 0
 editsSize (e ∷ es) = editSize e + editsSize es
 
-length-three : (x y z : List ℕ) → length (x ++ y ++ z) ≡ length x + length y + length z
+pub length-three : (x y z : List ℕ) → length (x ++ y ++ z) ≡ length x + length y + length z
 length-three x y z = simp length-append
 
 pub length-editBits : (e : Edit) → WellFormed e → length (editBits e) ≡ editSize e
@@ -72,7 +72,7 @@ length-recordOf es w =
 
 -- ---- every bit is 0 or 1
 
-allBelow-editBits : (e : Edit) → WellFormed e → AllBelow 2 (editBits e)
+pub allBelow-editBits : (e : Edit) → WellFormed e → AllBelow 2 (editBits e)
 unfolding editBits
 allBelow-editBits (Insert k p) w =
     allBelow-append 2 (bits 2 0 ++ k) (bits 32 p) (allBelow-append 2 (bits 2 0) k (allBelow-bits 2 0) (w .0 .bits)) (allBelow-bits 32 p)
@@ -343,7 +343,7 @@ readEdits-written (suc n) bs es b e =
     (λ (es′ : List Edit) (q : readEdits n rest ≡ some es′). readEdits-written n rest es′ (allBelow-drop 2 (fieldBits k) (drop 2 bs) (allBelow-drop 2 2 bs b)) q)
 
 -- padding is fewer than eight zeros
-padding-short : (bs : List ℕ) → padding bs ≡ true → length bs < 8
+pub padding-short : (bs : List ℕ) → padding bs ≡ true → length bs < 8
 unfolding padding
 padding-short bs p = ltb-true (length bs) 8 (and-left (ltb (length bs) 8) (eqb (value bs) 0) p)
 

@@ -4,7 +4,7 @@
 use mathlib.Core.Bool.{Bool, true, false, cond, _||_}
 use mathlib.Core.List.{List}
 use mathlib.Core.Path.{_≡_, refl, sym, ap, ap₂, subst, _∙_}
-use Prim.Native.Nat.{ℕ, zero, suc, _+_, _/_, _≤_, _<_}
+use Prim.Native.Nat.{ℕ, _+_, _/_, _≤_, _<_}
 use native.Mathlib.Numerals.{add-one}
 use native.Mathlib.Omega.{arith}
 use borrow.Author.Tests.{ne-eqb}
@@ -14,7 +14,7 @@ use Rattle.format.specs.Answer.{Answer}
 use Rattle.format.specs.Normal.{keys}
 use Rattle.format.specs.Page.{Entry, Header, checkPage, count, each, entries, entryOf, pageRefusal}
 use Rattle.facts.proofs.AnswerLaws.{or-false}
-use Rattle.facts.proofs.EntryLaws.{AreKeys, length-each}
+use Rattle.facts.proofs.EntryLaws.{AreKeys, areKeys-each, length-each}
 use Rattle.facts.proofs.PageLaws.{keyOf-key, length-entries}
 use Rattle.rows.specs.Rows.{rows, withRow, withRows}
 use Rattle.shape.proofs.CheckedLaws.{checked-accepted, checked-refused}
@@ -55,14 +55,9 @@ filled-all f t₀ t n i h l l′ =
 
 -- ---- the table after a page was loaded
 
-areKeys-each : (p : List ℕ) (n : ℕ) (f : ℕ → ℕ) → AreKeys (keys (each n (λ i. entryOf p (f i))))
-unfolding each keys AreKeys entryOf
-areKeys-each p zero f = tt
-areKeys-each p (suc n) f = (keyOf-key p (f 0), areKeys-each p n (λ i. f (suc i)))
-
 pub areKeys-entries : (p : List ℕ) → AreKeys (keys (entries p))
-unfolding entries
-areKeys-entries p = areKeys-each p (count p) (λ i. i)
+unfolding entries entryOf
+areKeys-entries p = areKeys-each (count p) (entryOf p) (keyOf-key p)
 
 module _ (p t : List ℕ) where
   pub loaded-refused : (r : ℕ) → Answer.Refused r ≡ checkPage p → (r ≡ 8 → ⊥) → loaded p t ≡ t

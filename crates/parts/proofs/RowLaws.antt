@@ -4,20 +4,18 @@
 -- Assumes nothing.
 use mathlib.Core.List.{List, [], _∷_}
 use mathlib.Core.Path.{_≡_, ap, _∙_}
-use Prim.Native.Nat.{ℕ, suc, _-_, _*_, _+_, _≤_, _<_}
+use Prim.Native.Nat.{ℕ, suc, _-_, _≤_, _<_}
 use native.Mathlib.Omega.{arith}
 use native.Mathlib.Decide.{decLe}
 use borrow.Author.Tests.{lt-ltb, le-ltb}
 use lib.ListN.{length, getD, drop}
 use lib.Seq.{drop-cons}
-use Rattle.format.specs.Key.{IsKey, separatorLength}
+use Rattle.format.specs.Key.{separatorLength}
 use Rattle.format.specs.Page.{Entry}
 use Rattle.format.specs.Normal.{pointers, storedLengths}
 use Rattle.facts.proofs.EntryLaws.{length-keys, length-pointers, keys-at, pointers-at}
 use Rattle.facts.proofs.StoredLaws.{length-storedLengths, storedLengths-compressed, storedLengths-plain}
-use Rattle.keys.specs.Keys.{keyBits}
 use Rattle.rows.specs.Rows.{rowKey, rowPointer, rowEntry, rows}
-use Rattle.keys.proofs.KeysLaws.{isKey-keyBits}
 use Rattle.rows.proofs.RowsLaws.{length-rows, rows-at}
 use Rattle.parts.specs.Parts.{leftOut, rowKeys, rowLengths}
 
@@ -32,16 +30,6 @@ unfolding leftOut
 leftOut-past m q i h = rw (le-ltb i m h)
 
 -- ---- keys and pointers
-
-pub isKey-row : (t : List ℕ) (i : ℕ) → IsKey (rowKey t i)
-unfolding rowKey keyBits
-isKey-row t i =
-    isKey-keyBits (record {
-      a = getD t (6 * i) 0;
-      b = getD t (6 * i + 1) 0;
-      c = getD t (6 * i + 2) 0;
-      d = getD t (6 * i + 3) 0;
-    })
 
 module _ (n : ℕ) (t : List ℕ) where
   pub length-rowKeys : length (rowKeys n t) ≡ n

@@ -18,7 +18,9 @@ use Rattle.format.specs.Key.{IsKey}
 use Rattle.format.specs.Normal.{keys}
 use Rattle.format.specs.Page.{Entry, each}
 use Rattle.facts.proofs.BitsLaws.{bits-value, allBelow-take, allBelow-drop}
-use Rattle.facts.proofs.EntryLaws.{length-each, getD-each, each-at, entry-same, AreKeys}
+use Rattle.facts.proofs.EntryLaws.{length-each, getD-each, each-at, entry-same, AreKeys, areKeys-each}
+use Rattle.keys.specs.Keys.{keyBits}
+use Rattle.keys.proofs.KeysLaws.{isKey-keyBits}
 use Rattle.rows.specs.Rows.{rowKey, rowPointer, rowSource, rowEntry, rows, rowWords, withRow, withRows}
 
 -- ---- each
@@ -164,6 +166,20 @@ module _ (t : List ℕ) (i : ℕ) (e : Entry) (s : ℕ) where
     rowEntry-other = entry-same (rowEntry (withRow t i e s) j) (rowEntry t j) rowKey-other rowPointer-other
 
 -- ---- the entries of n rows
+
+pub isKey-rowKey : (t : List ℕ) (i : ℕ) → IsKey (rowKey t i)
+unfolding rowKey keyBits
+isKey-rowKey t i =
+    isKey-keyBits (record {
+      a = getD t (6 * i) 0;
+      b = getD t (6 * i + 1) 0;
+      c = getD t (6 * i + 2) 0;
+      d = getD t (6 * i + 3) 0;
+    })
+
+pub areKeys-rows : (n : ℕ) (t : List ℕ) → AreKeys (keys (rows n t))
+unfolding rows rowEntry
+areKeys-rows n t = areKeys-each n (rowEntry t) (isKey-rowKey t)
 
 pub length-rows : (n : ℕ) (t : List ℕ) → length (rows n t) ≡ n
 unfolding rows
