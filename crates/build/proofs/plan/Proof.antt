@@ -4,7 +4,7 @@ use Rattle.build.proofs.plan.Tie as tie
 use Rattle.build.proofs.plan.Reads as reads
 use Rattle.build.proofs.plan.Lts as lts
 use Rattle.branch_ops.proofs.choice.choose.Reads as choose-reads
-use Rattle.edits.proofs.apply.edit_rows.Reads as edit-rows-reads
+use Rattle.apply.proofs.edit_rows.Reads as edit-rows-reads
 use Rattle.undo.proofs.write_undo.Reads as write-undo-reads
 use mathlib.Core.List.{List}
 use mathlib.Core.Path.{_≡_, sym, ap, subst, _∙_}
@@ -15,9 +15,9 @@ use Rattle.format.specs.Normal.{keys}
 use Rattle.format.specs.Refusals.{refusalNumber}
 use Rattle.format.specs.declared.refusal.Refusal.{Refusal}
 use Rattle.rows.specs.Rows.{rows}
-use Rattle.edits.specs.Apply.{editedAnswer, newCount, newTable}
-use Rattle.edits.specs.declared.apply.Edited.{Edited}
-use Rattle.edits.specs.declared.apply.Edited.the-variants.{Entries, Refused}
+use Rattle.apply.specs.Apply.{editedAnswer, newCount, newTable}
+use Rattle.apply.specs.declared.Edited.{Edited}
+use Rattle.apply.specs.declared.Edited.the-variants.{Entries, Refused}
 use Rattle.branch_ops.specs.Choice.{choiceAnswer, chosenOf}
 use Rattle.branch_ops.specs.declared.choice.Choice.{Choice}
 use Rattle.branch_ops.specs.declared.choice.Chosen.{Chosen}
