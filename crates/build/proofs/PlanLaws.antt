@@ -24,8 +24,9 @@ use Rattle.facts.proofs.EntryLaws.{Ascending, length-keys}
 use Rattle.facts.proofs.UndoLaws.{allWellFormed-undoEdits, length-undoEdits, length-undoRecord, undoRecord-edits}
 use Rattle.rows.specs.Rows.{rows}
 use Rattle.rows.proofs.RowsLaws.{length-rows}
-use Rattle.edits.specs.Apply.{newCount, newTable, readTests, recordTests}
-use Rattle.edits.proofs.ApplyLaws.{NewRows, allWellFormed-record, newRows, newRows-ascending, newRows-rows, newRows-sources}
+use Rattle.edits.specs.Record.{readTests}
+use Rattle.apply.specs.Apply.{newCount, newTable, recordTests}
+use Rattle.apply.proofs.ApplyLaws.{NewRows, allWellFormed-record, newRows, newRows-ascending, newRows-rows, newRows-sources}
 use Rattle.branch_ops.specs.Choice.{chosenOf, onePass}
 use Rattle.branch_ops.specs.Writer.{recordIn}
 use Rattle.branch_ops.proofs.ChoiceLaws.{chosenOf-normal}

@@ -16,8 +16,8 @@ use Rattle.facts.proofs.EditLaws.{anyOutside-head, anyOutside-tail, outside-kee
 use Rattle.facts.proofs.EntryLaws.{getD-each, length-each}
 use Rattle.rows.specs.Rows.{rowEntry, rowKey, rowSource, rows}
 use Rattle.rows.proofs.RowsLaws.{length-rows, rows-at}
-use Rattle.edits.specs.Apply.{sources, sourcesOf, upFrom}
-use Rattle.edits.proofs.ApplyLaws.{length-sourcesOf}
+use Rattle.apply.specs.Apply.{sources, sourcesOf, upFrom}
+use Rattle.apply.proofs.ApplyLaws.{length-sourcesOf}
 
 -- each of the entries whose source is a position of b has the key there
 abbrev AllSourced : List Entry → List Entry → List ℕ → Type 0

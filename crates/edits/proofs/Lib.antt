@@ -1,5 +1,4 @@
 -- The laws that the proofs of this crate share, and those that other crates cite. Read in this order.
 pub mod ReadingLaws
-pub mod PassLaws
-pub mod ApplyLaws
+pub mod CheckLaws
 pub mod Cases

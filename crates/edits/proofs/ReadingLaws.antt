@@ -2,7 +2,7 @@
 -- In order: one edit of bits (`spanAt`, `editAt`); a record that is well-formed, edit by edit (`Forming`); a field of
 -- a window, and an edit's fields out of windows (`HeadOf`); how long an edit is; padding; positions inside the base
 -- (`insideHead`); the edits that are still ahead (`Ahead`), and whether one of them is outside (`Placing`).
--- Not here: what records mean (format's `RecordLaws`).
+-- Not here: the record's refusals in their order (`CheckLaws`); what records mean (facts' `RecordLaws`).
 -- Assumes nothing.
 use mathlib.Core.Bool.{Bool, true, false, cond, not, _||_, false≢true}
 use mathlib.Core.List.{List, [], _∷_, _++_}

@@ -1,3 +1,2 @@
--- What the contracts of `edits` cite, as definitions. Read in this order.
+-- What the contracts of `edits` cite, as definitions.
 pub mod Record
-pub mod Apply

@@ -1,16 +1,18 @@
--- The edit record as the code reads it, edit by edit, with zeros where bits are lacking. Document 01, "Edit record".
--- In order: editMeant reachOf · formedIn countOf · kindAt editAt spanAt · HeadOf insideHead.
+-- The edit record as the code reads it, edit by edit, with zeros where bits are lacking, and its refusals. Document
+-- 01, "Edit record", and the refusals 10 to 12.
+-- In order: editMeant reachOf · formedIn countOf readTests · kindAt editAt spanAt · HeadOf insideHead.
 -- Assumes nothing.
 use mathlib.Core.Bool.{Bool, true, false, cond, not, _||_}
-use mathlib.Core.List.{List}
+use mathlib.Core.List.{List, [], _∷_}
 use mathlib.Core.Option.{Option}
 use mathlib.Core.Path.{_≡_}
 use Prim.Native.Nat.{ℕ, _+_}
 use lib.Dec.{eqb, ltb, leb}
 use lib.ListN.{length, drop}
+use Rattle.format.specs.Answer.{Test, refuse}
 use Rattle.format.specs.Bits.{bitsOf, value, fill}
-use Rattle.format.specs.Build.{malformed}
-use Rattle.format.specs.Edit.{Edit, fieldBits, editOf}
+use Rattle.format.specs.Build.{editsOf, malformed}
+use Rattle.format.specs.Edit.{Edit, fieldBits, editOf, readRecord, anyOutside}
 use Rattle.format.specs.Edit.Edit.{Insert, Update, Keep}
 use Rattle.keys.specs.Keys.{keyBits}
 use Rattle.edits.specs.declared.edit.Edit.{Edit as CodeEdit}
@@ -42,6 +44,13 @@ formedIn o = not (malformed o)
 unfoldable pub countOf : List ℕ → ℕ
 unfolding value fill bitsOf
 countOf r = value (fill 10 (bitsOf r))
+
+-- The refusals 10 to 12 of a record over a base of n entries.
+unfoldable pub readTests : ℕ → List ℕ → List Test
+unfolding malformed readRecord editsOf anyOutside
+readTests n rec =
+    let es : List Edit = editsOf (readRecord rec) in
+    refuse 10 (malformed (readRecord rec)) ∷ refuse 11 (anyOutside n es) ∷ refuse 12 (eqb (length es) 0) ∷ []
 
 -- The kind of the edit at the front of bits.
 unfoldable pub kindAt : List ℕ → ℕ

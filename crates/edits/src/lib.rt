@@ -1,5 +1,3 @@
-// Edits: the record that holds them, and the entries that they make of a base's. Document 01, "Edit
-// record", and the refusals 10 to 13.
-pub mod apply;
+// Edits, and the record that holds them. Document 01, "Edit record", and the refusals 10 to 12.
 pub mod edit;
 pub mod record;

@@ -1,5 +1,5 @@
-// The edit record: its edits, and the refusals 10 and 11. These two read one window of 64 bits for
-// each edit, and no key.
+// The edit record: its edits, and the refusals 10 to 12. 10 and 11 read one window of 64 bits for each
+// edit, and no key.
 //     BITS    WHAT
 //       10    count of edits
 //        2    an edit's kind, and then its fields:
@@ -11,17 +11,21 @@
 // What it means: format's specs/Edit.antt, and specs/Record.antt.
 use crate::edit::Edit;
 use format::layout;
+use format::refusal::Outcome;
+use format::refusal::Refusal;
 use keys::Key;
 ghost use mathlib.Core.Bool.{true, not};
 ghost use mathlib.Core.Path.{_≡_};
 ghost use Prim.Native.Nat.{_+_, _*_, _≤_, _<_};
 ghost use lib.ListN.{length, drop};
+ghost use Rattle.format.specs.Answer.{first};
 ghost use Rattle.format.specs.Bits.{bitsOf, fill};
 ghost use Rattle.format.specs.Build.{editsOf};
 ghost use Rattle.format.specs.Edit.{fieldBits, padding, readRecord, anyOutside};
+ghost use Rattle.format.specs.Refusals.{outcomeNumber};
 ghost use Rattle.keys.specs.Keys.{keyBits};
 ghost use Rattle.edits.specs.Record.{editMeant, reachOf, formedIn, countOf, editAt, spanAt};
-ghost use Rattle.edits.specs.Record.{HeadOf, insideHead};
+ghost use Rattle.edits.specs.Record.{HeadOf, insideHead, readTests};
 
 // The fields in an edit's first 44 bits: kind; position or start; end; pointer of an Update.
 struct Head {
@@ -137,7 +141,7 @@ fn inside(h: Head, n: usize) -> bool
 }
 
 // Whether all edits' positions lie in a base of n entries: refusal 11 is given where they do not.
-pub(crate) fn all_inside(s: &[u8], n: usize) -> bool
+fn all_inside(s: &[u8], n: usize) -> bool
     requires { ⌜ formedIn (readRecord (now s)) ≡ true ⌝ }
     ensures answer { λ r. ⌜ r ≡ not (anyOutside n (editsOf (readRecord (now (s .entry))))) ⌝ }
 {
@@ -153,6 +157,23 @@ pub(crate) fn all_inside(s: &[u8], n: usize) -> bool
         i += 1;
     }
     true
+}
+
+// What is wrong with a record over a base of n entries, if anything. Refused, in this order: 10, it
+// is malformed; 11, a position that the base has not; 12, no edits.
+pub fn check(s: &[u8], n: usize) -> Outcome
+    ensures answer { λ r. ⌜ outcomeNumber r ≡ first (readTests n (now (s .entry))) ⌝ }
+{
+    if !formed(s) {
+        return Outcome::Refused(Refusal::MalformedRecord);
+    }
+    if !all_inside(s, n) {
+        return Outcome::Refused(Refusal::EditOutside);
+    }
+    if count(s) == 0 {
+        return Outcome::Refused(Refusal::NoEdits);
+    }
+    Outcome::Done
 }
 
 // The key of the insert at bit p, with zeros past the record's end.

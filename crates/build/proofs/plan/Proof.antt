@@ -10,9 +10,9 @@ use Rattle.format.specs.Normal.{keys}
 use Rattle.format.specs.Refusals.{refusalNumber}
 use Rattle.format.specs.declared.refusal.Refusal.{Refusal}
 use Rattle.rows.specs.Rows.{rows}
-use Rattle.edits.specs.Apply.{editedAnswer, newCount, newTable}
-use Rattle.edits.specs.declared.apply.Edited.{Edited}
-use Rattle.edits.specs.declared.apply.Edited.the-variants.{Entries, Refused}
+use Rattle.apply.specs.Apply.{editedAnswer, newCount, newTable}
+use Rattle.apply.specs.declared.Edited.{Edited}
+use Rattle.apply.specs.declared.Edited.the-variants.{Entries, Refused}
 use Rattle.branch_ops.specs.Choice.{choiceAnswer, chosenOf}
 use Rattle.branch_ops.specs.declared.choice.Choice.{Choice}
 use Rattle.branch_ops.specs.declared.choice.Chosen.{Chosen}

@@ -1,0 +1,4 @@
+-- The laws that the proofs of this crate share, and those that other crates cite. Read in this order.
+pub mod PassLaws
+pub mod ApplyLaws
+pub mod Cases

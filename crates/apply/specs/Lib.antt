@@ -1,0 +1,2 @@
+-- What the contracts of `apply` cite, as definitions.
+pub mod Apply
