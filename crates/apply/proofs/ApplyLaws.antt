@@ -8,7 +8,7 @@ use mathlib.Core.Bool.{Bool, true, false, cond, not, _&&_, false≢true}
 use mathlib.Core.List.{List, [], _∷_, _++_}
 use mathlib.Core.Option.{Option, none, some, Option·none-ne-some}
 use mathlib.Core.Path.{_≡_, refl, sym, ap, ap₂, subst, _∙_}
-use Prim.Native.Nat.{ℕ, zero, suc, _+_, _-_, _*_, _/_, _≤_, _<_, min}
+use Prim.Native.Nat.{ℕ, zero, suc, _+_, _-_, _/_, _≤_, _<_, min}
 use native.Mathlib.Nat.{add-zero, zero-add}
 use native.Mathlib.Numerals.{add-one}
 use native.Mathlib.Omega.{arith}
@@ -47,18 +47,8 @@ use Rattle.facts.proofs.EditLaws.{outside-keep, outside-update, anyOutside-head
 use Rattle.facts.proofs.EntryLaws.{Ascending, AreKeys, areKeys-at, ascending-next, each-at, keys-at, length-keys}
 use Rattle.facts.proofs.RecordLaws.{readEdits-written, readRecord-bits}
 use Rattle.facts.proofs.RefusalLaws.{refusalNumber-positive}
-use Rattle.keys.specs.Keys.{keyBits}
-use Rattle.rows.specs.Rows.{rowKey, rowSource, rowEntry, rows, withRow}
-use Rattle.keys.proofs.KeysLaws.{isKey-keyBits}
-use Rattle.rows.proofs.RowsLaws.{
-  length-withRow,
-  length-rows,
-  rows-at,
-  rowEntry-same,
-  rowEntry-other,
-  rowSource-same,
-  rowSource-other,
-}
+use Rattle.rows.specs.Rows.{rowSource, rowEntry, rows, withRow}
+use Rattle.rows.proofs.RowsLaws.{areKeys-rows, length-withRow, length-rows, rows-at, rowEntry-same, rowEntry-other, rowSource-same, rowSource-other}
 use Rattle.apply.specs.declared.State.{State}
 use Rattle.edits.specs.Record.{formedIn, readTests}
 use Rattle.apply.specs.Apply.{
@@ -373,25 +363,7 @@ unfolding ascending entriesOf risingFront
 risingFront-all [] a = refl
 risingFront-all (x ∷ xs) a = ap (λ (l : List Item). x ∷ l) (risingFrom-all (x .entry .key) xs a)
 
--- ---- keys of rows, and new keys, are keys
-
-isKey-rowKey : (t : List ℕ) (i : ℕ) → IsKey (rowKey t i)
-unfolding rowKey keyBits
-isKey-rowKey t i = isKey-keyBits (record {
-  a = getD t (6 * i) 0;
-  b = getD t (6 * i + 1) 0;
-  c = getD t (6 * i + 2) 0;
-  d = getD t (6 * i + 3) 0;
-})
-
-areKeys-each : (n : ℕ) (f : ℕ → Entry) → ((i : ℕ) → IsKey (f i .key)) → AreKeys (keys (each n f))
-unfolding AreKeys keys each
-areKeys-each zero f y = tt
-areKeys-each (suc n) f y = (y 0, areKeys-each n (λ i. f (suc i)) (λ i. y (suc i)))
-
-pub areKeys-rows : (n : ℕ) (t : List ℕ) → AreKeys (keys (rows n t))
-unfolding rows rowEntry
-areKeys-rows n t = areKeys-each n (rowEntry t) (isKey-rowKey t)
+-- ---- new keys are keys
 
 areKeys-append : (es fs : List Entry) → AreKeys (keys es) → AreKeys (keys fs) → AreKeys (keys (es ++ fs))
 unfolding AreKeys keys

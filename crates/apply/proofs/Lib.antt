@@ -2,3 +2,4 @@
 pub mod PassLaws
 pub mod ApplyLaws
 pub mod Cases
+pub mod UniqueLaws

@@ -46,7 +46,6 @@ use Rattle.format.specs.Edit.{
   anyOutside,
 }
 use Rattle.format.specs.Edit.Edit.{Insert, Update, Keep}
-use Rattle.facts.proofs.AnswerLaws.{and-left}
 use Rattle.facts.proofs.BitsLaws.{
   length-bits,
   length-bitsOf,
@@ -64,7 +63,7 @@ use Rattle.facts.proofs.BitsLaws.{
   fill-short,
   take-fill,
 }
-use Rattle.facts.proofs.RecordLaws.{kind, step, readEdits-suc, readEdits-zero, readRecord-bits}
+use Rattle.facts.proofs.RecordLaws.{length-three, padding-short, kind, step, readEdits-suc, readEdits-zero, readRecord-bits}
 use Rattle.words.proofs.NumberLaws.{bits-split, take-bits}
 use Rattle.words.proofs.WindowLaws.{drop-fill}
 use Rattle.keys.specs.declared.Key.{Key}
@@ -174,10 +173,6 @@ spanAt-most d = go (ltb (length d) 2 || eqb (kindAt d) 3 || ltb (length d) (2 + 
     go true e = rw e (omega arith)
     go false e = rw e (omega (arith, fieldBits-most (kindAt d)))
 
-padding-length : (d : List ℕ) → padding d ≡ true → length d < 8
-unfolding padding
-padding-length d e = ltb-true (length d) 8 (and-left (ltb (length d) 8) (eqb (value d) 0) e)
-
 formedIn-zero : (d : List ℕ) → formedIn (readEdits 0 d) ≡ padding d
 unfolding formedIn
 formedIn-zero d = ap formedIn (readEdits-zero d) ∙ go (padding d)
@@ -188,7 +183,7 @@ formedIn-zero d = ap formedIn (readEdits-zero d) ∙ go (padding d)
 
 -- n edits and padding have no more bits than this
 readEdits-length : (n : ℕ) (d : List ℕ) → formedIn (readEdits n d) ≡ true → length d < 290 * n + 8
-readEdits-length zero d e = omega (arith, padding-length d (sym (formedIn-zero d) ∙ e))
+readEdits-length zero d e = omega (arith, padding-short d (sym (formedIn-zero d) ∙ e))
 readEdits-length (suc n) d e = go (eqb (spanAt d) 0) refl (readEdits-length n (drop (spanAt d) d))
   where
     go : (t : Bool) → eqb (spanAt d) 0 ≡ t
@@ -409,9 +404,6 @@ module _ (k : ℕ) where
   pub field-keep : (k ≡ 0 → ⊥) → (k ≡ 1 → ⊥) → 20 ≡ fieldBits k
   unfolding fieldBits
   field-keep e f = rw (ne-eqb k 0 e, ne-eqb k 1 f)
-
-length-three : (x y z : List ℕ) → length (x ++ y ++ z) ≡ length x + length y + length z
-length-three x y z = simp length-append
 
 -- the kind of the edit that is read
 pub field-size : (d : List ℕ) → fieldBits (kind (editAt d)) ≡ fieldBits (kindAt d)
