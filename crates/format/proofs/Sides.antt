@@ -185,8 +185,7 @@ builds =
 -- ---- calls on keys, ranges and sizes
 
 pub record Calls : Type 0 where
-  -- 17: a < b (in the table), a = b, a > b
-  pub separate-equal : separate (key 0x80) (key 0x80) ≡ Answer.Refused 17
+  -- 17: a < b and a = b (in the table), a > b
   pub separate-above : separate (key 0x80) (key 0) ≡ Answer.Refused 17
   -- 18: no bits lie inside wherever they start; the last bit, and one past it, in either slice; 2^64 - 1 does not
   -- wrap
@@ -221,7 +220,6 @@ pub calls : Calls
 unfolding separate bitCopy rebuildKey refusalOf afterwards bodySize wholeFromStored storedFromWhole key hex
 calls =
     record {
-      separate-equal = refl;
       separate-above = refl;
       copy-none = refl;
       copy-last = refl;
