@@ -42,7 +42,7 @@ pub enum Refusal {
     Unrepresentable,
 }
 
-// What a call answers that only writes: it is done, or refused. Its number: `outcomeNumber`.
+// What a call answers that gives no value: it is done, or refused. Its number: `outcomeNumber`.
 pub enum Outcome {
     Done,
     Refused(Refusal),
