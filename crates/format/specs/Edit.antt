@@ -11,7 +11,7 @@
 -- In order: Edit WellFormed AllWellFormed · editBits editsBits recordOf · fieldBits editOf padding andThen readEdits
 -- readRecord · noEntry made apply · outside anyOutside · ascendingFrom ascending.
 -- Assumes nothing.
-use Prim.Native.Nat.{ℕ, zero, suc, _+_, _-_, _^_, _<_}
+use Prim.Native.Nat.{ℕ, zero, suc, _-_, _^_, _<_}
 use mathlib.Core.Bool.{Bool, true, false, cond, _||_, _&&_}
 use mathlib.Core.List.{List, [], _∷_, _++_}
 use mathlib.Core.Option.{Option, none, some}
