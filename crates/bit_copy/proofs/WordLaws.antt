@@ -1,18 +1,19 @@
--- Laws of bits copied a word at a time (`Moved` of specs/Runs.antt; words' `withWord`).
--- In order: a word stored; bits moved inside eight bytes; a whole word moved.
+-- Laws of bits copied a word at a time (`Moved` of specs/Runs.antt; words' `withWord`, `withFirst`).
+-- In order: a word stored; bits moved inside eight bytes, and inside fewer; a whole word moved.
 -- Assumes nothing.
 use mathlib.Core.Bool.{Bool, cond}
-use mathlib.Core.List.{List, _++_, append-assoc}
+use mathlib.Core.List.{List, [], _++_, append-assoc}
 use mathlib.Core.Path.{_≡_, sym, ap, ap₂, _∙_}
-use Prim.Native.Nat.{ℕ, _+_, _-_, _*_, _/_, _%_, _≤_, _<_}
+use Prim.Native.Nat.{ℕ, _+_, _-_, _*_, _/_, _≤_, _<_}
+use native.Mathlib.Nat.{zero-add}
 use native.Mathlib.Omega.{arith}
 use borrow.Author.Tests.{lt-ltb}
 use lib.ListN.{length, take, drop, replicate, length-drop, take-append-drop}
-use lib.Seq.{drop-drop, length-take-le, paste, take-all, take-append-add, take-take}
+use lib.Seq.{drop-drop, length-paste, length-take-le, paste, take-all, take-append-add, take-at, take-take}
 use Rattle.format.specs.Bits.{bits, bitsOf, fill}
-use Rattle.facts.proofs.BitsLaws.{bitsOf-append, fill-take, length-bits, length-bitsOf, take-fill}
-use Rattle.words.specs.Words.{wordBytes, withWord, windowBits, wordBits}
-use Rattle.words.proofs.WordsLaws.{withWord-in, bitsOf-wordBytes, wordBits-in}
+use Rattle.facts.proofs.BitsLaws.{bitsOf-append, fill-short, fill-take, length-bits, length-bitsOf, take-fill}
+use Rattle.words.specs.Words.{wordBytes, withWord, withFirst, windowBits, wordBits}
+use Rattle.words.proofs.WordsLaws.{withWord-in, withFirst-few, bitsOf-wordBytes, length-wordBytes, wordBits-in}
 use Rattle.bit_copy.specs.Runs.{Moved}
 use Rattle.bit_copy.proofs.FieldLaws.{bitsOf-take, bitsOf-drop, paste-inside}
 
@@ -76,22 +77,39 @@ joined-paste x v w y j n z l ev lz ew ey =
     ∙ ap (λ (b : List ℕ). take j X ++ b) (ap (take n) ev ∙ take-fill n 64 z (omega arith) ∙ fill-take n z lz) in
     ey ∙ ap (λ (b : List ℕ). b ++ drop (j + n) X) t
 
-pub moved-in-word : (d s : List ℕ) (i j b g n x v w y : ℕ) (d′ : List ℕ) → j + n ≤ 64 → i + 8 ≤ length d → g < 8
-    → 8 * b + g + n ≤ 8 * length s
+pub moved-in-word : (d s : List ℕ) (i j f n x y : ℕ) (d′ : List ℕ) → j + n ≤ 64 → i + 8 ≤ length d
     → bits 64 x ≡ wordBits d i
-    → bits 64 v ≡ fill 64 (drop (8 * b + g % 8) (bitsOf s))
-    → bits 64 w ≡ take 64 (take j (bits 64 x) ++ bits 64 v)
-    → bits 64 y ≡ take (j + n) (bits 64 w) ++ drop (j + n) (bits 64 x)
+    → bits 64 y ≡ paste (bits 64 x) j (drop f (bitsOf s)) n
     → d′ ≡ withWord d i y
-    → Moved d (8 * i + j) s (8 * b + g) n d′
-moved-in-word d s i j b g n x v w y d′ l h hg hs ex ev ew ey e =
-    let z : List ℕ = drop (8 * b + g) (bitsOf s) in
-    let m : 8 * b + g % 8 ≡ 8 * b + g = omega arith in
-    let lz : n ≤ length z = omega (arith, length-drop (8 * b + g) (bitsOf s), length-bitsOf s) in
+    → Moved d (8 * i + j) s f n d′
+moved-in-word d s i j f n x y d′ l h ex ey e =
+    record { moved = ap bitsOf e ∙ word-pasted d i h x y j n (drop f (bitsOf s)) (ex ∙ wordBits-in d i h) l ey }
+
+-- ---- bits moved inside fewer bytes
+
+-- all the bytes as a word with zeros behind them, whose first bytes are stored again
+pub moved-in-few : (d s : List ℕ) (j f n x y : ℕ) (d′ : List ℕ) → j + n ≤ 8 * length d → length d < 8
+    → f + n ≤ 8 * length s
+    → bits 64 x ≡ fill 64 (bitsOf d)
+    → bits 64 y ≡ paste (bits 64 x) j (drop f (bitsOf s)) n
+    → d′ ≡ withFirst d y
+    → Moved d j s f n d′
+moved-in-few d s j f n x y d′ l h hs ex ey e =
+    let B : List ℕ = bitsOf d in
+    let z : List ℕ = drop f (bitsOf s) in
+    let q : List ℕ = replicate (64 - length B) 0 in
+    let lz : n ≤ length z = omega (arith, length-drop f (bitsOf s), length-bitsOf s) in
+    let lB : length B ≡ 8 * length d = length-bitsOf d in
+    let lP : length (paste B j z n) ≡ 8 * length d = length-paste B j z n (omega arith) lz ∙ lB in
+    let w : bits 64 y ≡ paste B j z n ++ q =
+    ey ∙ ap (λ (b : List ℕ). paste b j z n) (ex ∙ fill-short 64 B (omega arith))
+    ∙ ap (λ (k : ℕ). paste (B ++ q) k z n) (sym (zero-add j)) ∙ paste-inside [] B q z j n (omega arith) in
     record {
       moved =
-          ap bitsOf e ∙ word-pasted d i h x y j n z (ex ∙ wordBits-in d i h) l
-          (joined-paste x v w y j n z l (ev ∙ ap (λ (k : ℕ). fill 64 (drop k (bitsOf s))) m) lz ew ey);
+          ap bitsOf (e ∙ withFirst-few d y (omega arith))
+          ∙ bitsOf-take (length d) (wordBytes y) (omega (arith, length-wordBytes y))
+          ∙ ap (take (8 * length d)) (bitsOf-wordBytes y ∙ w)
+          ∙ take-at (paste B j z n) q (8 * length d) lP;
     }
 
 -- ---- a word moved
@@ -109,22 +127,18 @@ word-stored d i x h =
     ∙ ap (λ (l : List ℕ). take (8 * i) B ++ l ++ drop (8 * i + 64) B)
     (sym (take-all 64 (bits 64 x) (omega (arith, length-bits 64 x))))
 
-pub moved-word : (d s : List ℕ) (i b g x : ℕ) (d′ : List ℕ) → i + 8 ≤ length d → g < 8
-    → 8 * b + g + 64 < 8 * length s
-    → bits 64 x ≡ windowBits s (8 * b + g % 8)
+pub moved-word : (d s : List ℕ) (i f x : ℕ) (d′ : List ℕ) → i + 8 ≤ length d → f + 64 < 8 * length s
+    → bits 64 x ≡ windowBits s f
     → d′ ≡ withWord d i x
-    → Moved d (8 * i) s (8 * b + g) 64 d′
+    → Moved d (8 * i) s f 64 d′
 unfolding windowBits
-moved-word d s i b g x d′ h hg hs ex e =
-    let f : ℕ = 8 * b + g in
+moved-word d s i f x d′ h hs ex e =
     let B : List ℕ = bitsOf d in
     let z : List ℕ = drop f (bitsOf s) in
-    let m : 8 * b + g % 8 ≡ f = omega arith in
     let k : f / 8 + 8 < length s = omega arith in
     let lz : 64 ≤ length z = omega (arith, length-drop f (bitsOf s), length-bitsOf s) in
     let v : bits 64 x ≡ take 64 z =
-    ex ∙ ap (windowBits s) m
-    ∙ ap (λ (t : Bool). cond t (fill 64 z) (replicate 64 0)) (lt-ltb (f / 8 + 8) (length s) k) ∙ fill-take 64 z lz in
+    ex ∙ ap (λ (t : Bool). cond t (fill 64 z) (replicate 64 0)) (lt-ltb (f / 8 + 8) (length s) k) ∙ fill-take 64 z lz in
     record {
       moved =
           ap bitsOf e ∙ word-stored d i x h

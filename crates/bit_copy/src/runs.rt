@@ -1,138 +1,81 @@
-// Runs of bits that lie inside their slices, and their copy.
-use crate::places;
-use crate::places::Place;
+// Runs of bits that lie inside their slices, and their copy, a word at a time. Bit 0 is the most
+// significant one of byte 0; a bit of src is named by two numbers, whose sum need not fit.
 ghost use mathlib.Core.Path.{_≡_};
-ghost use Prim.Native.Nat.{_+_, _*_, _≤_, _<_};
-ghost use lib.ListN.{length};
+ghost use Prim.Native.Nat.{_+_, _-_, _*_, _≤_, _<_};
+ghost use lib.ListN.{length, drop};
+ghost use lib.Seq.{paste};
+ghost use Rattle.format.specs.Bits.{bits, bitsOf};
 ghost use Rattle.format.specs.Ranges.{bitsCopied};
 ghost use Rattle.bit_copy.specs.Runs.{Moved};
 
-// Copies n bits into one byte.
-fn copy_few(dst: &mut [u8], to: Place, src: &[u8], of: Place, n: usize)
-    requires { ⌜ (to .bit + n ≤ 8) × (8 * to .byte + to .bit + n ≤ 8 * length (now dst)) ⌝ }
-    requires { ⌜ (of .bit < 8) × (8 * of .byte + of .bit + n ≤ 8 * length (now src)) ⌝ }
-    ensures { λ _. ⌜ Moved (now (dst .entry)) (8 * to .byte + to .bit) (now (src .entry)) (8 * of .byte + of .bit) n (now (dst .exit)) ⌝ }
+// The word x, its n bits from bit h on replaced by those of src from bit `from + skip` on.
+fn with_bits(x: u64, h: usize, src: &[u8], from: usize, skip: usize, n: usize) -> u64
+    requires { ⌜ (h + n ≤ 64) × (from + skip + n ≤ 8 * length (now src)) ⌝ }
+    ensures { λ r. ⌜ bits 64 r ≡ paste (bits 64 x) h (drop (from + skip) (bitsOf (now (src .entry)))) n ⌝ }
 {
-    if n == 0 {
+    let v = words::at_bit(src, from, skip);
+    let y = words::joined(x, h, v);
+    words::spliced(y, h + n, x)
+}
+
+// Copies n bits into the eight bytes from i on, which are there, from their bit h on.
+fn copy_in_word(dst: &mut [u8], i: usize, h: usize, src: &[u8], from: usize, skip: usize, n: usize)
+    requires { ⌜ (i + 8 ≤ length (now dst)) × (h + n ≤ 64) × (from + skip + n ≤ 8 * length (now src)) ⌝ }
+    ensures { λ _. ⌜ Moved (now (dst .entry)) (8 * i + h) (now (src .entry)) (from + skip) n (now (dst .exit)) ⌝ }
+{
+    let x = words::word_at(dst, i);
+    let y = with_bits(x, h, src, from, skip, n);
+    words::store(dst, i, y);
+}
+
+// Copies n bits into a dst of fewer than eight bytes, from bit h on: all of it is one word, with
+// zeros behind it.
+fn copy_in_few(dst: &mut [u8], h: usize, src: &[u8], from: usize, skip: usize, n: usize)
+    requires { ⌜ (length (now dst) < 8) × (h + n ≤ 8 * length (now dst)) × (from + skip + n ≤ 8 * length (now src)) ⌝ }
+    ensures { λ _. ⌜ Moved (now (dst .entry)) h (now (src .entry)) (from + skip) n (now (dst .exit)) ⌝ }
+{
+    let x = words::at_place(dst, 0, 0);
+    let y = with_bits(x, h, src, from, skip, n);
+    words::store_first(dst, y);
+}
+
+// Copies n bits, to bit h of byte i and on, inside eight bytes: those from i on, or the last eight
+// of dst where fewer are left there, or all of a dst that has fewer.
+fn copy_part(dst: &mut [u8], i: usize, h: usize, src: &[u8], from: usize, skip: usize, n: usize)
+    requires { ⌜ (h + n ≤ 64) × (8 * i + h + n ≤ 8 * length (now dst)) × (from + skip + n ≤ 8 * length (now src)) ⌝ }
+    ensures { λ _. ⌜ Moved (now (dst .entry)) (8 * i + h) (now (src .entry)) (from + skip) n (now (dst .exit)) ⌝ }
+{
+    if dst.len() < 8 {
+        copy_in_few(dst, 8 * i + h, src, from, skip, n);
         return;
     }
-    let v = places::get_bits(src, of, n);
-    places::put_bits(dst, to, n, v);
-}
-
-// Copies n times eight bits, to the byte `to` and those behind it.
-fn copy_bytes(dst: &mut [u8], to: usize, src: &[u8], of: Place, n: usize)
-    requires { ⌜ to + n ≤ length (now dst) ⌝ }
-    requires { ⌜ (of .bit < 8) × (8 * of .byte + of .bit + 8 * n ≤ 8 * length (now src)) ⌝ }
-    ensures { λ _. ⌜ Moved (now (dst .entry)) (8 * to) (now (src .entry)) (8 * of .byte + of .bit) (8 * n) (now (dst .exit)) ⌝ }
-{
-    for k in 0..n {
-        let p = Place {
-            byte: to + k,
-            bit: 0,
-        };
-        let q = Place {
-            byte: of.byte + k,
-            bit: of.bit,
-        };
-        copy_few(dst, p, src, q, 8);
-    }
-}
-
-// Copies `len` bits from a byte's start on, the byte `to`: whole bytes, and the rest.
-fn copy_on(dst: &mut [u8], to: usize, src: &[u8], of: Place, len: usize)
-    requires { ⌜ 8 * to + len ≤ 8 * length (now dst) ⌝ }
-    requires { ⌜ (of .bit < 8) × (8 * of .byte + of .bit + len ≤ 8 * length (now src)) ⌝ }
-    ensures { λ _. ⌜ Moved (now (dst .entry)) (8 * to) (now (src .entry)) (8 * of .byte + of .bit) len (now (dst .exit)) ⌝ }
-{
-    let n = len / 8;
-    copy_bytes(dst, to, src, of, n);
-    let p = Place {
-        byte: to + n,
-        bit: 0,
-    };
-    let q = Place {
-        byte: of.byte + n,
-        bit: of.bit,
-    };
-    copy_few(dst, p, src, q, len % 8);
-}
-
-// Copies `len` bits byte by byte: up to a byte's end, and on from there.
-fn copy_by_bytes(dst: &mut [u8], to: Place, src: &[u8], of: Place, len: usize)
-    requires { ⌜ (to .bit < 8) × (8 * to .byte + to .bit + len ≤ 8 * length (now dst)) ⌝ }
-    requires { ⌜ (of .bit < 8) × (8 * of .byte + of .bit + len ≤ 8 * length (now src)) ⌝ }
-    ensures { λ _. ⌜ Moved (now (dst .entry)) (8 * to .byte + to .bit) (now (src .entry)) (8 * of .byte + of .bit) len (now (dst .exit)) ⌝ }
-{
-    let head = 7 - (to.bit + 7) % 8;
-    if len <= head {
-        copy_few(dst, to, src, of, len);
-        return;
-    }
-    copy_few(dst, to, src, of, head);
-    copy_on(
-        dst,
-        to.byte + (to.bit + 7) / 8,
-        src,
-        places::skip(of, head),
-        len - head,
-    );
-}
-
-// Copies n bits into the eight bytes from a place's byte on, which are there.
-fn copy_in_word(dst: &mut [u8], to: Place, src: &[u8], of: Place, n: usize)
-    requires { ⌜ (to .bit + n ≤ 64) × (to .byte + 8 ≤ length (now dst)) ⌝ }
-    requires { ⌜ (of .bit < 8) × (8 * of .byte + of .bit + n ≤ 8 * length (now src)) ⌝ }
-    ensures { λ _. ⌜ Moved (now (dst .entry)) (8 * to .byte + to .bit) (now (src .entry)) (8 * of .byte + of .bit) n (now (dst .exit)) ⌝ }
-{
-    let x = words::word_at(dst, to.byte);
-    let v = words::at_place(src, of.byte, of.bit);
-    let y = words::joined(x, to.bit, v);
-    words::store(dst, to.byte, words::spliced(y, to.bit + n, x));
-}
-
-// Copies n bits, at most as many as eight bytes have from a place on.
-fn copy_part(dst: &mut [u8], to: Place, src: &[u8], of: Place, n: usize)
-    requires { ⌜ (to .bit < 8) × (to .bit + n ≤ 64) × (8 * to .byte + to .bit + n ≤ 8 * length (now dst)) ⌝ }
-    requires { ⌜ (of .bit < 8) × (8 * of .byte + of .bit + n ≤ 8 * length (now src)) ⌝ }
-    ensures { λ _. ⌜ Moved (now (dst .entry)) (8 * to .byte + to .bit) (now (src .entry)) (8 * of .byte + of .bit) n (now (dst .exit)) ⌝ }
-{
-    if to.byte < numbers::over(dst.len(), 7) {
-        copy_in_word(dst, to, src, of, n);
-    } else {
-        copy_by_bytes(dst, to, src, of, n);
-    }
+    let j = numbers::least(i, dst.len() - 8);
+    copy_in_word(dst, j, 8 * (i - j) + h, src, from, skip, n);
 }
 
 // Copies n words, to the byte `to` and those behind it; src has a bit behind them.
-fn copy_words(dst: &mut [u8], to: usize, src: &[u8], of: Place, n: usize)
-    requires { ⌜ to + 8 * n ≤ length (now dst) ⌝ }
-    requires { ⌜ (of .bit < 8) × (8 * of .byte + of .bit + 64 * n < 8 * length (now src)) ⌝ }
-    ensures { λ _. ⌜ Moved (now (dst .entry)) (8 * to) (now (src .entry)) (8 * of .byte + of .bit) (64 * n) (now (dst .exit)) ⌝ }
+fn copy_words(dst: &mut [u8], to: usize, src: &[u8], from: usize, skip: usize, n: usize)
+    requires { ⌜ (to + 8 * n ≤ length (now dst)) × (from + skip + 64 * n < 8 * length (now src)) ⌝ }
+    ensures { λ _. ⌜ Moved (now (dst .entry)) (8 * to) (now (src .entry)) (from + skip) (64 * n) (now (dst .exit)) ⌝ }
 {
+    let h = from % 8 + skip % 8;
+    let i = from / 8 + skip / 8 + h / 8;
     for k in 0..n {
-        let x = words::window_at(src, of.byte + 8 * k, of.bit);
+        let x = words::window_at(src, i + 8 * k, h);
         words::store(dst, to + 8 * k, x);
     }
 }
 
-// Copies `len` bits from a byte's start on, the byte `to`: words, and at least a bit of rest.
-fn copy_rest(dst: &mut [u8], to: usize, src: &[u8], of: Place, len: usize)
-    requires { ⌜ (0 < len) × (8 * to + len ≤ 8 * length (now dst)) ⌝ }
-    requires { ⌜ (of .bit < 8) × (8 * of .byte + of .bit + len ≤ 8 * length (now src)) ⌝ }
-    ensures { λ _. ⌜ Moved (now (dst .entry)) (8 * to) (now (src .entry)) (8 * of .byte + of .bit) len (now (dst .exit)) ⌝ }
+// Copies the bits of a run of `len` from its bit `skip` on, to the byte `to` and those behind it:
+// words, and at least a bit of rest.
+fn copy_rest(dst: &mut [u8], to: usize, src: &[u8], from: usize, skip: usize, len: usize)
+    requires { ⌜ (skip < len) × (8 * to + (len - skip) ≤ 8 * length (now dst)) × (from + len ≤ 8 * length (now src)) ⌝ }
+    ensures { λ _. ⌜ Moved (now (dst .entry)) (8 * to) (now (src .entry)) (from + skip) (len - skip) (now (dst .exit)) ⌝ }
 {
-    let n = (len - 1) / 64;
-    copy_words(dst, to, src, of, n);
-    let p = Place {
-        byte: to + 8 * n,
-        bit: 0,
-    };
-    let q = Place {
-        byte: of.byte + 8 * n,
-        bit: of.bit,
-    };
-    copy_part(dst, p, src, q, len - 64 * n);
+    let n = (len - skip - 1) / 64;
+    copy_words(dst, to, src, from, skip, n);
+    let done = skip + 64 * n;
+    copy_part(dst, to + 8 * n, 0, src, from, done, len - done);
 }
 
 // Copies `len` bits that lie inside their slices: into eight bytes, and on from there.
@@ -140,13 +83,9 @@ pub(crate) fn copy_inside(dst: &mut [u8], at: usize, src: &[u8], from: usize, le
     requires { ⌜ (at + len ≤ 8 * length (now dst)) × (from + len ≤ 8 * length (now src)) ⌝ }
     ensures { λ _. ⌜ now (dst .exit) ≡ bitsCopied (now (dst .entry)) at (now (src .entry)) from len ⌝ }
 {
-    let to = places::place_of(at);
-    let of = places::place_of(from);
-    let head = 64 - to.bit;
-    if len <= head {
-        copy_part(dst, to, src, of, len);
-        return;
+    let head = numbers::least(len, 64 - at % 8);
+    copy_part(dst, at / 8, at % 8, src, from, 0, head);
+    if head < len {
+        copy_rest(dst, at / 8 + 8, src, from, head, len);
     }
-    copy_part(dst, to, src, of, head);
-    copy_rest(dst, to.byte + 8, src, places::skip(of, head), len - head);
 }

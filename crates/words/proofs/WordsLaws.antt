@@ -1,21 +1,44 @@
 -- Laws of words in bytes (`specs/Words.antt`).
--- In order: `wordBytes`; `withWord`; `wordBits`.
+-- In order: `wordBytes`; `withWord`; `withFirst`; `wordBits`.
 -- Not here: the number that bytes spell (`WindowLaws`).
 -- Assumes nothing.
 use mathlib.Core.Bool.{Bool, true, false, cond}
-use mathlib.Core.List.{List, _++_}
+use mathlib.Core.List.{List, _++_, append-nil}
 use mathlib.Core.Path.{_≡_, refl, ap, ap₂, _∙_}
-use Prim.Native.Nat.{ℕ, _+_, _*_, _≤_, _<_}
+use Prim.Native.Nat.{ℕ, zero, suc, _+_, _-_, _*_, _/_, _%_, _^_, _≤_, _<_, min}
+use native.Mathlib.Nat.{le-of-suc-le-suc, not-suc-le-zero}
 use native.Mathlib.Omega.{arith}
 use borrow.Author.Tests.{le-leb, lt-leb, leb-true}
 use lib.Dec.{leb}
-use lib.ListN.{length, take, drop, replicate, length-append}
-use lib.Seq.{take-all, take-at, drop-append-add, length-paste, paste}
-use Rattle.format.specs.Bits.{bits, bitsOf, fill, AllBelow}
-use Rattle.facts.proofs.BitsLaws.{length-bits, length-pack, bitsOf-pack, allBelow-bits, allBelow-pack, fill-exact}
-use Rattle.words.specs.Words.{wordBytes, withWord, wordBits}
+use lib.ListN.{length, getD, take, drop, replicate, length-append}
+use lib.Seq.{take-all, take-at, drop-append-add, drop-drop, drop-length, length-paste, paste}
+use Rattle.format.specs.Bits.{bits, bitsOf, fill, pack, value, AllBelow}
+use Rattle.facts.proofs.BitsLaws.{
+  allBelow-bits,
+  allBelow-pack,
+  bits-mod,
+  bitsOf-pack,
+  fill-exact,
+  fill-take,
+  length-bits,
+  length-pack,
+  value-bits,
+}
+use Rattle.words.specs.Words.{wordBytes, withWord, withFirst, wordBits}
+use Rattle.words.proofs.NumberLaws.{take-bits}
+use Rattle.words.proofs.WindowLaws.{rest-are}
 
 -- ---- the bytes of a word
+
+-- the byte at i of those that hold bits
+pack-at : (k i : ℕ) (bs : List ℕ) → i < k → getD (pack k bs) i 0 ≡ value (fill 8 (drop (8 * i) bs))
+unfolding pack
+pack-at zero i bs h = absurd (not-suc-le-zero h)
+pack-at (suc k) zero bs h = refl
+pack-at (suc k) (suc i) bs h =
+    let e : 8 + 8 * i ≡ 8 * suc i = omega arith in
+    pack-at k i (drop 8 bs) (le-of-suc-le-suc h)
+    ∙ ap (λ (l : List ℕ). value (fill 8 l)) (drop-drop (8 * i) 8 bs ∙ ap (λ (n : ℕ). drop n bs) e)
 
 module _ (x : ℕ) where
   pub length-wordBytes : length (wordBytes x) ≡ 8
@@ -29,6 +52,19 @@ module _ (x : ℕ) where
   pub allBelow-wordBytes : AllBelow 256 (wordBytes x)
   unfolding wordBytes
   allBelow-wordBytes = allBelow-pack 8 (bits 64 x) (allBelow-bits 64 x)
+
+  -- the byte at i as a number
+  pub wordBytes-at : (i : ℕ) → i < 8 → getD (wordBytes x) i 0 ≡ x / 2 ^ (56 - 8 * i) % 256
+  unfolding wordBytes
+  wordBytes-at i h =
+      let j : ℕ = 56 - 8 * i in
+      let e : 64 - 8 * i ≡ 8 + j = omega arith in
+      let d : drop (8 * i) (bits 64 x) ≡ bits (8 + j) x =
+      rest-are (8 * i) x (omega arith) ∙ bits-mod (64 - 8 * i) (64 - 8 * i) x (omega arith)
+      ∙ ap (λ (n : ℕ). bits n x) e in
+      pack-at 8 i (bits 64 x) h ∙ ap (λ (l : List ℕ). value (fill 8 l)) d
+      ∙ ap value (fill-take 8 (bits (8 + j) x) (omega (arith, length-bits (8 + j) x)) ∙ take-bits 8 j x)
+      ∙ value-bits 8 (x / 2 ^ j)
 
 -- ---- a word stored
 
@@ -63,6 +99,18 @@ withWord-behind p q i x e h =
     withWord-in (p ++ q) i x l
     ∙ ap₂ (λ (u v : List ℕ). (u ++ wordBytes x) ++ v) (take-at p q i e)
     (ap (λ (k : ℕ). drop k (p ++ q)) f ∙ drop-append-add p q 8)
+
+-- ---- its first bytes stored
+
+-- in all of a slice of at most eight
+pub withFirst-few : (s : List ℕ) (x : ℕ) → length s ≤ 8 → withFirst s x ≡ take (length s) (wordBytes x)
+unfolding withFirst
+withFirst-few s x h =
+    let e : min (length s) 8 ≡ length s = omega arith in
+    let f : 0 + min (length s) 8 ≡ length s = omega arith in
+    ap₂ (λ (m n : ℕ). take m (wordBytes x) ++ drop n s) e f
+    ∙ ap (λ (l : List ℕ). take (length s) (wordBytes x) ++ l) (drop-length s)
+    ∙ append-nil (take (length s) (wordBytes x))
 
 -- ---- a word read
 

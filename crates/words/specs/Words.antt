@@ -1,7 +1,7 @@
 -- Words of 64 bits, in bytes and out of them.
--- In order: wordBytes withWord · windowBits wordBits.
+-- In order: wordBytes withWord withFirst · windowBits wordBits.
 -- Assumes nothing.
-use Prim.Native.Nat.{ℕ, _+_, _*_, _/_}
+use Prim.Native.Nat.{ℕ, _+_, _*_, _/_, min}
 use mathlib.Core.Bool.{cond}
 use mathlib.Core.List.{List}
 use lib.Dec.{leb, ltb}
@@ -18,6 +18,11 @@ wordBytes x = pack 8 (bits 64 x)
 unfoldable pub withWord : List ℕ → ℕ → ℕ → List ℕ
 unfolding wordBytes
 withWord s i x = cond (leb (i + 8) (length s)) (paste s i (wordBytes x) 8) s
+
+-- s with the first bytes of the word x at its start, as many as both have.
+unfoldable pub withFirst : List ℕ → ℕ → List ℕ
+unfolding wordBytes
+withFirst s x = paste s 0 (wordBytes x) (min (length s) 8)
 
 -- The 64 bits of s from bit `start` on, where the nine bytes from there on are in s; else zeros.
 unfoldable pub windowBits : List ℕ → ℕ → List ℕ

@@ -6,7 +6,7 @@ ghost use mathlib.Core.List.{_++_};
 ghost use Prim.Native.Nat.{_+_, _-_, _*_, _%_, _^_, _<_, _≤_};
 ghost use lib.ListN.{length, take, drop};
 ghost use Rattle.format.specs.Bits.{bits, bitsOf, fill, pack};
-ghost use Rattle.words.specs.Words.{windowBits, withWord, wordBits};
+ghost use Rattle.words.specs.Words.{windowBits, withFirst, withWord, wordBits};
 
 // The 32 bits of the four bytes from i on, which are there.
 fn four(s: &[u8], i: usize) -> u64
@@ -199,5 +199,14 @@ pub fn store(s: &mut [u8], i: usize, x: u64)
     if i < numbers::over(s.len(), 7) {
         store_four(s, i, x / 0x100000000);
         store_four(s, i + 4, x);
+    }
+}
+
+// The first bytes of the word x in those of s, as many as both have; the others stay.
+pub fn store_first(s: &mut [u8], x: u64)
+    ensures written { λ _. ⌜ now (s .exit) ≡ withFirst (now (s .entry)) x ⌝ }
+{
+    for k in 0..numbers::least(s.len(), 8) {
+        s[k] = ((x >> (56 - 8 * k)) % 0x100) as u8;
     }
 }
