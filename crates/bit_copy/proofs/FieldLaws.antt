@@ -8,7 +8,7 @@ use Prim.Native.Nat.{ℕ, zero, suc, _+_, _-_, _*_, _/_, _%_, _^_, _≤_, _<_}
 use native.Mathlib.Nat.{le-of-suc-le-suc, not-suc-le-zero}
 use native.Mathlib.Omega.{arith}
 use lib.ListN.{length, getD, take, drop, take-append-drop, List·getD-append}
-use lib.Seq.{drop-append-add, drop-append-le, drop-at, getD-append-add, length-take-le, paste}
+use lib.Seq.{drop-append-add, drop-append-le, getD-append-add, length-take-le, paste}
 use lib.Seq.{take-append-add, take-append-le, take-at}
 use Rattle.format.specs.Bits.{bits, bitsOf}
 use Rattle.facts.proofs.BitsLaws.{bitsOf-append, length-bits, length-bitsOf}
@@ -50,10 +50,6 @@ module _ (k : ℕ) (l : List ℕ) (h : k ≤ length l) where
   -- the first k bytes
   pub bitsOf-take : bitsOf (take k l) ≡ take (8 * k) (bitsOf l)
   bitsOf-take = sym (ap (take (8 * k)) parts ∙ take-at (bitsOf (take k l)) (bitsOf (drop k l)) (8 * k) size)
-
-  -- those behind them
-  pub bitsOf-drop : bitsOf (drop k l) ≡ drop (8 * k) (bitsOf l)
-  bitsOf-drop = sym (ap (drop (8 * k)) parts ∙ drop-at (bitsOf (take k l)) (bitsOf (drop k l)) (8 * k) size)
 
 -- ---- bits replaced in the middle
 

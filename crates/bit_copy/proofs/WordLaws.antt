@@ -13,9 +13,10 @@ use lib.Seq.{drop-drop, length-paste, length-take-le, paste, take-all, take-appe
 use Rattle.format.specs.Bits.{bits, bitsOf, fill}
 use Rattle.facts.proofs.BitsLaws.{bitsOf-append, fill-short, fill-take, length-bits, length-bitsOf, take-fill}
 use Rattle.words.specs.Words.{wordBytes, withWord, withFirst, windowBits, wordBits}
+use Rattle.words.proofs.WindowLaws.{drop-bitsOf}
 use Rattle.words.proofs.WordsLaws.{withWord-in, withFirst-few, bitsOf-wordBytes, length-wordBytes, wordBits-in}
 use Rattle.bit_copy.specs.Runs.{Moved}
-use Rattle.bit_copy.proofs.FieldLaws.{bitsOf-take, bitsOf-drop, paste-inside}
+use Rattle.bit_copy.proofs.FieldLaws.{bitsOf-take, paste-inside}
 
 -- ---- a word stored
 
@@ -43,7 +44,7 @@ module _ (d : List ℕ) (i : ℕ) (h : i + 8 ≤ length d) where
       let l : 64 ≤ length (drop (8 * i) B) = omega (arith, length-drop (8 * i) B, length-bitsOf d) in
       let p : P ≡ take (8 * i) B = bitsOf-take i d (omega arith) in
       let q : Q ≡ drop 64 (drop (8 * i) B) =
-      bitsOf-drop (i + 8) d h ∙ ap (λ (k : ℕ). drop k B) e ∙ sym (drop-drop 64 (8 * i) B) in
+      sym (drop-bitsOf (i + 8) d) ∙ ap (λ (k : ℕ). drop k B) e ∙ sym (drop-drop 64 (8 * i) B) in
       sym (ap₂ (λ (u v : List ℕ). u ++ v) p
       (ap₂ _++_ (ex ∙ fill-take 64 (drop (8 * i) B) l) q ∙ take-append-drop 64 (drop (8 * i) B))
       ∙ take-append-drop (8 * i) B)
@@ -122,7 +123,7 @@ word-stored d i x h =
     let a : 8 * (i + 8) ≡ 8 * i + 64 = omega arith in
     stored-bits d i h x
     ∙ ap₂ (λ (p q : List ℕ). p ++ (bits 64 x ++ q)) (bitsOf-take i d (omega arith))
-    (bitsOf-drop (i + 8) d h ∙ ap (λ (n : ℕ). drop n B) a)
+    (sym (drop-bitsOf (i + 8) d) ∙ ap (λ (n : ℕ). drop n B) a)
     ∙ sym (append-assoc (take (8 * i) B) (bits 64 x) (drop (8 * i + 64) B))
     ∙ ap (λ (l : List ℕ). take (8 * i) B ++ l ++ drop (8 * i + 64) B)
     (sym (take-all 64 (bits 64 x) (omega (arith, length-bits 64 x))))

@@ -17,7 +17,7 @@ use Rattle.format.specs.Normal.{pageUnder}
 use Rattle.facts.proofs.AcceptedLaws.{Accepted, accepted-pageRefusal, length-prefix}
 use Rattle.facts.proofs.BitsLaws.{fill-short, length-bitsOf}
 use Rattle.facts.proofs.PageLaws.{entryBits-compressed, prefixOf-compressed, startOf-suc, storedLength-is}
-use Rattle.bit_copy.proofs.FieldLaws.{bitsOf-drop}
+use Rattle.words.proofs.WindowLaws.{drop-bitsOf}
 use Rattle.rows.specs.Rows.{rows, rowKey, rowSource}
 use Rattle.builder.specs.Writes.{ownBits, laidOut, Wrote}
 use Rattle.builder.specs.Over.{usable, kept, baseBits, overBits, pageOver, Based}
@@ -48,12 +48,12 @@ separatorOf-key p k i a h e ls hb es =
     ∙ ap (take (storedLength p i)) (drop-at f (s ++ z) q lf) ∙ take-at s z (storedLength p i) ls)
 
 -- the bits of a base are those of its body
-baseBits-body : (p : List ℕ) (bn q a len : ℕ) → bn ≡ count p → q ≡ prefixLength p → 10 + 2 * bn ≤ length p
+baseBits-body : (p : List ℕ) (bn q a len : ℕ) → bn ≡ count p → q ≡ prefixLength p
     → baseBits p bn q a len ≡ take len (drop (prefixLength p + a) (body p))
 unfolding baseBits body
-baseBits-body p bn q a len en eq h =
+baseBits-body p bn q a len en eq =
     ap (take len)
-    (sym (drop-drop (q + a) (8 * (10 + 2 * bn)) (bitsOf p)) ∙ ap (drop (q + a)) (sym (bitsOf-drop (10 + 2 * bn) p h))
+    (sym (drop-drop (q + a) (8 * (10 + 2 * bn)) (bitsOf p)) ∙ ap (drop (q + a)) (drop-bitsOf (10 + 2 * bn) p)
     ∙ ap₂ (λ (x y : ℕ). drop (y + a) (bitsOf (drop (10 + 2 * x) p))) en eq)
 
 -- ---- a kept row's bits
@@ -99,7 +99,7 @@ module _ (p t : List ℕ) (n bn bm m q : ℕ) (b : Based p t n bn bm q) (i : ℕ
       separatorOf-key p key s a hc (b .sources i h hs) ls bound
       (stored ∙ ap (λ (x : ℕ). separatorLength key - x) (b .has-prefix)) in
       overBits-kept p bn bm t m q i k
-      ∙ baseBits-body p bn q (startOf p s) len (b .has-count) (b .has-prefix) fit
+      ∙ baseBits-body p bn q (startOf p s) len (b .has-count) (b .has-prefix)
       ∙ ap (λ (x : ℕ). take x (drop at (body p))) (sym stored) ∙ w
       ∙ ap (λ (x : ℕ). take (separatorLength key - x) (drop x key))
       (sym (b .has-prefix) ∙ leftOut-in m q i (kept-compressed p bn bm t m q i k))

@@ -30,7 +30,7 @@ use mir.Syntax.{w64}
 use mir.Val.{Fits}
 use lib.Pow.{pow-add, pow-pos}
 use lib.ListN.{length, take, drop, replicate, length-drop, length-append, length-replicate}
-use lib.Seq.{drop-at, drop-drop}
+use lib.Seq.{drop-drop}
 use Rattle.format.specs.Bits.{bits, bitsOf, value, fill}
 use Rattle.format.specs.Build.{editsOf}
 use Rattle.format.specs.Edit.{
@@ -46,25 +46,9 @@ use Rattle.format.specs.Edit.{
   anyOutside,
 }
 use Rattle.format.specs.Edit.Edit.{Insert, Update, Keep}
-use Rattle.facts.proofs.BitsLaws.{
-  length-bits,
-  length-bitsOf,
-  allBelow-bitsOf,
-  allBelow-drop,
-  allBelow-fill,
-  bits-mod,
-  value-bits,
-  value-lt,
-  value-of-bits,
-  value-zeros,
-  length-fill,
-  fill-take,
-  fill-add,
-  fill-short,
-  take-fill,
-}
+use Rattle.facts.proofs.BitsLaws.{length-bits, length-bitsOf, allBelow-bitsOf, allBelow-drop, allBelow-fill, value-bits, value-lt, value-of-bits, value-zeros, length-fill, fill-take, fill-add, fill-short, take-fill}
 use Rattle.facts.proofs.RecordLaws.{length-three, padding-short, kind, step, readEdits-suc, readEdits-zero, readRecord-bits}
-use Rattle.words.proofs.NumberLaws.{bits-split, take-bits}
+use Rattle.words.proofs.NumberLaws.{drop-bits, take-bits}
 use Rattle.words.proofs.WindowLaws.{drop-fill}
 use Rattle.keys.specs.declared.Key.{Key}
 use Rattle.keys.specs.Keys.{keyBits}
@@ -267,11 +251,6 @@ forming-end r n i p b f h e =
     e ∙ sym (f ∙ ap (λ (k : ℕ). formedIn (readEdits k (drop p (bitsOf r)))) z ∙ formedIn-zero (drop p (bitsOf r)))
 
 -- ---- a field of a window
-
-pub drop-bits : (j k n : ℕ) → drop j (bits (j + k) n) ≡ bits k n
-drop-bits j k n =
-    ap (drop j) (bits-split j k n) ∙ drop-at (bits j (n / 2 ^ k)) (bits k (n % 2 ^ k)) j (length-bits j (n / 2 ^ k))
-    ∙ bits-mod k k n (omega arith)
 
 -- the w bits behind the first j
 field : (x w j : ℕ) (d : List ℕ) → bits 64 x ≡ fill 64 d → j + w ≤ 64

@@ -11,14 +11,14 @@ use mir.Val.{Fits}
 use lib.ListN.{getD, length, take, drop, set, length-set, replicate, length-replicate, replicate-append-replicate}
 use lib.ListN.{length-append, length-drop}
 use borrow.Author.Tests.{le-leb, lt-leb, ne-eqb}
-use lib.Seq.{drop-append-add, drop-append-le, drop-at, drop-drop, paste, paste-zero, take-all, take-append-add, take-append-le, take-paste, take-suc-set}
+use lib.Seq.{drop-append-add, drop-append-le, drop-drop, paste, paste-zero, take-all, take-append-add, take-append-le, take-paste, take-suc-set}
 use Rattle.format.specs.Answer.{afterwards, first, unless}
 use Rattle.format.specs.Bits.{bits, bitsOf, fill, pack, bytesFor}
 use Rattle.format.specs.Key.{IsKey}
 use Rattle.format.specs.Ranges.{bitCopy, bitsCopied, inside}
 use Rattle.format.specs.declared.refusal.Outcome.{Outcome}
 use Rattle.facts.proofs.BitsLaws.{bitsOf-append, bitsOf-pack, bitsOf-zeros, fill-exact, length-bitsOf}
-use Rattle.facts.proofs.BitsLaws.{bits-mod, fill-take, length-bits, length-pack, take-fill, take-zeros}
+use Rattle.facts.proofs.BitsLaws.{fill-take, length-bits, length-pack, take-fill, take-zeros}
 use Rattle.facts.proofs.BitsLaws.{allBelow-bitsOf, allBelow-take, at-below, pack-bitsOf, pack-zeros, packed}
 use Rattle.facts.proofs.RangesLaws.{bitsOf-bitsCopied}
 use Rattle.bit_copy.specs.Calls.{Copied}
@@ -26,7 +26,7 @@ use Rattle.bit_copy.proofs.FieldLaws.{bitsOf-take}
 use Rattle.bit_copy.proofs.RunLaws.{end-inside, paste-add}
 use Rattle.bit_copy.proofs.WordLaws.{word-pasted, word-stored, joined-paste}
 use Rattle.words.specs.Words.{withWord, wordBytes, wordBits}
-use Rattle.words.proofs.NumberLaws.{bits-split}
+use Rattle.words.proofs.NumberLaws.{drop-bits}
 use Rattle.words.proofs.WindowLaws.{moved-bits}
 use Rattle.words.proofs.WordsLaws.{withWord-in, length-withWord, bitsOf-wordBytes, wordBits-in}
 use Rattle.keys.specs.declared.Key.{Key}
@@ -255,11 +255,6 @@ module _ (d : List ℕ) (at n x : ℕ) where
       ∙ ap (λ (m : ℕ). pack m (paste (bitsOf d) at (bits 64 x) n)) l)
 
 -- ---- a number's bits
-
-drop-bits : (j k n : ℕ) → drop j (bits (j + k) n) ≡ bits k n
-drop-bits j k n =
-    ap (drop j) (bits-split j k n) ∙ drop-at (bits j (n / 2 ^ k)) (bits k (n % 2 ^ k)) j (length-bits j (n / 2 ^ k))
-    ∙ bits-mod k k n (omega arith)
 
 -- moved to the front of a word
 low-bits : (x n : ℕ) → n ≤ 64 → 0 < n → take n (bits 64 (x * 2 ^ (64 - n) % 2 ^ 64)) ≡ take n (bits n x)

@@ -8,10 +8,10 @@ use Prim.Native.Nat.{ℕ, zero, suc, _+_, _-_, _*_, _/_, _%_, _^_, _≤_}
 use native.Mathlib.Nat.{add-zero, div-eq-of-lt, mod-lt}
 use native.Mathlib.Omega.{arith}
 use lib.Pow.{pow-pos, split, low, shl-shr, mod-pow-add}
-use lib.ListN.{take, replicate}
-use lib.Seq.{take-at}
+use lib.ListN.{take, drop, replicate}
+use lib.Seq.{take-at, drop-at}
 use Rattle.format.specs.Bits.{bits}
-use Rattle.facts.proofs.BitsLaws.{length-bits, bits-cat}
+use Rattle.facts.proofs.BitsLaws.{length-bits, bits-cat, bits-mod}
 
 -- its first j bits, and the k that follow
 pub bits-split : (j k n : ℕ) → bits (j + k) n ≡ bits j (n / 2 ^ k) ++ bits k (n % 2 ^ k)
@@ -20,6 +20,11 @@ bits-split j k n = ap (bits (j + k)) (sym (split n k)) ∙ bits-cat j k (n / 2 ^
 pub take-bits : (j k n : ℕ) → take j (bits (j + k) n) ≡ bits j (n / 2 ^ k)
 take-bits j k n =
     ap (take j) (bits-split j k n) ∙ take-at (bits j (n / 2 ^ k)) (bits k (n % 2 ^ k)) j (length-bits j (n / 2 ^ k))
+
+pub drop-bits : (j k n : ℕ) → drop j (bits (j + k) n) ≡ bits k n
+drop-bits j k n =
+    ap (drop j) (bits-split j k n) ∙ drop-at (bits j (n / 2 ^ k)) (bits k (n % 2 ^ k)) j (length-bits j (n / 2 ^ k))
+    ∙ bits-mod k k n (omega arith)
 
 pub bits-zero : (w : ℕ) → bits w 0 ≡ replicate w 0
 unfolding bits

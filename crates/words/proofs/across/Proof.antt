@@ -3,8 +3,6 @@
 use borrow.Author.Needs.{needs}
 use Rattle.words.proofs.across.Statement.{statement}
 use Rattle.words.proofs.across.Tie as tie
-use Rattle.words.proofs.across.Reads as reads
-use Rattle.words.proofs.across.Lts as lts
 use Rattle.words.proofs.WindowLaws.{across-lt, across-bits, across-all}
 
 ruleset laws = (across-lt, across-bits, across-all)

@@ -3,9 +3,6 @@
 use borrow.Author.Needs.{needs}
 use Rattle.words.proofs.at_bit.Statement.{statement}
 use Rattle.words.proofs.at_bit.Tie as tie
-use Rattle.words.proofs.at_bit.Reads as reads
-use Rattle.words.proofs.at_bit.Lts as lts
-use Rattle.words.proofs.at_place.Reads as at-place-reads
 use mathlib.Core.List.{List}
 use mathlib.Core.Path.{_≡_, ap, _∙_}
 use Prim.Native.Nat.{ℕ, _+_, _*_, _/_, _%_}

@@ -3,10 +3,6 @@
 use borrow.Author.Needs.{needs}
 use Rattle.words.proofs.at_end.Statement.{statement}
 use Rattle.words.proofs.at_end.Tie as tie
-use Rattle.words.proofs.at_end.Reads as reads
-use Rattle.words.proofs.at_end.Lts as lts
-use Rattle.words.proofs.last.Reads as last-reads
-use Rattle.words.proofs.nine_near_end.Reads as nine-near-end-reads
 use mathlib.Core.List.{List}
 use mathlib.Core.Path.{_≡_, refl}
 use Prim.Native.Nat.{ℕ, _+_, _*_, _≤_}

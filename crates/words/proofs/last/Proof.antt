@@ -3,9 +3,6 @@
 use borrow.Author.Needs.{needs}
 use Rattle.words.proofs.last.Statement.{statement}
 use Rattle.words.proofs.last.Tie as tie
-use Rattle.words.proofs.last.Reads as reads
-use Rattle.words.proofs.last.Lts as lts
-use Rattle.words.proofs.eight.Reads as eight-reads
 use mathlib.Core.List.{List}
 use mathlib.Core.Path.{_≡_}
 use Prim.Native.Nat.{ℕ, _+_, _-_, _*_, _%_, _^_, _≤_, _<_}

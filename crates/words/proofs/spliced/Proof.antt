@@ -3,8 +3,6 @@
 use borrow.Author.Needs.{needs}
 use Rattle.words.proofs.spliced.Statement.{statement}
 use Rattle.words.proofs.spliced.Tie as tie
-use Rattle.words.proofs.spliced.Reads as reads
-use Rattle.words.proofs.spliced.Lts as lts
 use Rattle.words.proofs.WindowLaws.{cut-le, spliced-lt, spliced-bits, spliced-all}
 
 ruleset laws = (cut-le, spliced-lt, spliced-bits, spliced-all)

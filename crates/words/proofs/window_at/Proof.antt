@@ -3,10 +3,6 @@
 use borrow.Author.Needs.{needs}
 use Rattle.words.proofs.window_at.Statement.{statement}
 use Rattle.words.proofs.window_at.Tie as tie
-use Rattle.words.proofs.window_at.Reads as reads
-use Rattle.words.proofs.window_at.Lts as lts
-use Rattle.words.proofs.nine.Reads as nine-reads
-use Rattle.numbers.proofs.over.Reads as over-reads
 use mathlib.Core.Bool.{Bool, cond}
 use mathlib.Core.List.{List}
 use mathlib.Core.Path.{_≡_, sym, ap, _∙_}
