@@ -2,3 +2,4 @@
 pub mod ReadingLaws
 pub mod CheckLaws
 pub mod Cases
+pub mod UniqueLaws

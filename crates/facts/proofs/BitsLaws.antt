@@ -92,6 +92,10 @@ value-bits (suc w) n =
 pub value-of-bits : (w n : ℕ) → n < 2 ^ w → value (bits w n) ≡ n
 value-of-bits w n h = value-bits w n ∙ mod-eq-of-lt h
 
+-- a number of w bits is known by them
+pub bits-inj : (w x y : ℕ) → x < 2 ^ w → y < 2 ^ w → bits w x ≡ bits w y → x ≡ y
+bits-inj w x y h l e = sym (value-of-bits w x h) ∙ ap value e ∙ value-of-bits w y l
+
 pub value-lt : (bs : List ℕ) → AllBelow 2 bs → value bs < 2 ^ length bs
 unfolding value AllBelow
 value-lt [] b = omega arith

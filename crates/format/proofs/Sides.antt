@@ -1,7 +1,7 @@
 -- Both sides of the lines that document 01 draws, by computation; each of the refusals 1 to 19 is given at least
 -- once.
 -- In order: `Pages` (1 to 8, 16), `Builds` (9 to 15), `Calls` (17 to 19); the number of each refusal.
--- Not here: a full page of 108 entries, read and built, and the outside cases (crate `cases`).
+-- Not here: a full page of 108 entries, read and built (crate `cases`), and the outside cases (crate `vectors`).
 -- Assumes nothing.
 use mathlib.Core.List.{[], _∷_, map}
 use mathlib.Core.Path.{_≡_, refl}

@@ -2,3 +2,4 @@
 pub mod CompareLaws
 pub mod KeysLaws
 pub mod BehindLaws
+pub mod UniqueLaws
