@@ -1,6 +1,5 @@
 -- An edit is known by what it means: two that mean the same are one.
 -- Assumes nothing.
-
 use mathlib.Core.Path.{_≡_, ap₂}
 use Prim.Native.Nat.{ℕ}
 use native.Mathlib.Omega.{arith}
