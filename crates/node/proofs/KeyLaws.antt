@@ -66,11 +66,15 @@ module _ (p : List ℕ) (h : Header) (f : SizesFit p h) where
       (sym (drop-drop (prefixLength p + startOf p i) (8 * (10 + 2 * count p)) (bitsOf p))
       ∙ ap (drop (prefixLength p + startOf p i)) (drop-bitsOf (10 + 2 * count p) p))
 
-  pub keyOf-read : (i start end len x : ℕ) (k r : Key) → keyBits k ≡ fill 256 (take (prefixLength p) (body p))
+  pub keyOf-read : (i start end bit len x : ℕ) (k r : Key)
+      → keyBits r ≡ fill 256 (take x (keyBits k) ++ take len (drop bit (bitsOf p)))
+      → keyBits k ≡ fill 256 (take (prefixLength p) (body p))
+      → bit ≡ 8 * (10 + 2 * h .n) + h .q + start → len ≡ end - start
       → start ≡ startOf p i
-      → end ≡ endOf p i → len ≡ end - start → x ≡ cond (ltb i (h .m)) (h .q) 0
-      → keyBits r ≡ fill 256 (take x (keyBits k) ++ take len (drop (8 * (10 + 2 * h .n) + h .q + start) (bitsOf p)))
+      → end ≡ endOf p i → x ≡ cond (ltb i (h .m)) (h .q) 0
       → keyBits r ≡ keyOf p i
   unfolding keyOf
-  keyOf-read i start end len x k r ek es ee el ex er =
-      er ∙ ap₂ (λ (u v : List ℕ). fill 256 (u ++ v)) (prefix-is i x k ek ex) (separator-is i start end len es ee el)
+  keyOf-read i start end bit len x k r er ek eb el es ee ex =
+      er
+      ∙ ap₂ (λ (u v : List ℕ). fill 256 (u ++ v)) (prefix-is i x k ek ex)
+      (ap (λ (b : ℕ). take len (drop b (bitsOf p))) eb ∙ separator-is i start end len es ee el)

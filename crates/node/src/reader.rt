@@ -4,7 +4,7 @@
 // What a page means: format's specs/Page.antt. What the answers mean: specs/Reader.antt.
 ghost use mathlib.Core.Path.{_≡_};
 ghost use mathlib.Core.Bool.{cond, not, _||_};
-ghost use Prim.Native.Nat.{_<_};
+ghost use Prim.Native.Nat.{_+_, _-_, _*_, _<_, _≤_};
 ghost use lib.Dec.{eqb};
 ghost use lib.ListN.{take};
 ghost use Rattle.format.specs.Answer.{afterwards};
@@ -61,28 +61,33 @@ fn prefix(page: &[u8], h: Header) -> Key
     Key::zero().with_bits(0, page, start, h.q)
 }
 
-// The key of entry i, out of the prefix and its separator, which starts and ends at two offsets.
+// Where a separator stands in a page: its first bit, and how many it has.
+struct Separator {
+    bit: usize,
+    len: usize,
+}
+
+// The separator between two offsets.
+fn between(h: Header, start: usize, end: usize) -> Separator
+    requires { ⌜ (h .n ≤ 681) × (h .q ≤ 256) × (start < 65536) ⌝ }
+    ensures answer { λ r. ⌜ (r .bit ≡ 8 * (10 + 2 * h .n) + h .q + start) × (r .len ≡ end - start) ⌝ }
+{
+    Separator {
+        bit: 8 * (layout::HEADER_SIZE + 2 * h.n) + h.q + start,
+        len: numbers::over(end, start),
+    }
+}
+
+// The key of entry i, out of the prefix and its separator, which starts and ends at two offsets. For
+// the loop over all entries, where most keys end in their first word.
 fn get_key(page: &[u8], h: Header, prefix: Key, i: usize, start: usize, end: usize) -> Key
     requires { ⌜ SizesFit (now page) h
         × (keyBits prefix ≡ fill 256 (take (prefixLength (now page)) (body (now page))))
         × (start ≡ startOf (now page) i) × (start < 65536) × (end ≡ endOf (now page) i) ⌝ }
     ensures answer { λ r. ⌜ keyBits r ≡ keyOf (now (page .entry)) i ⌝ }
 {
-    let len = numbers::over(end, start);
-    let bit = 8 * (layout::HEADER_SIZE + 2 * h.n) + h.q + start;
-    prefix.with_bits(shape::prefix_bits(h, i), page, bit, len)
-}
-
-// The same, for a loop over all entries.
-fn next_key(page: &[u8], h: Header, prefix: Key, i: usize, start: usize, end: usize) -> Key
-    requires { ⌜ SizesFit (now page) h
-        × (keyBits prefix ≡ fill 256 (take (prefixLength (now page)) (body (now page))))
-        × (start ≡ startOf (now page) i) × (start < 65536) × (end ≡ endOf (now page) i) ⌝ }
-    ensures answer { λ r. ⌜ keyBits r ≡ keyOf (now (page .entry)) i ⌝ }
-{
-    let len = numbers::over(end, start);
-    let bit = 8 * (layout::HEADER_SIZE + 2 * h.n) + h.q + start;
-    prefix.with_few_bits(shape::prefix_bits(h, i), page, bit, len)
+    let s = between(h, start, end);
+    prefix.with_few_bits(shape::prefix_bits(h, i), page, s.bit, s.len)
 }
 
 // Whether key i is not above the one before it, if there is one, or one before it was not.
@@ -115,7 +120,7 @@ fn load_rows(page: &[u8], h: Header, t: &mut [u64]) -> bool
     let mut i: usize = 0;
     while i < n {
         let end = shape::cell(page, i);
-        let key = next_key(page, h, shared, i, start, end);
+        let key = get_key(page, h, shared, i, start, end);
         table::set_row(t, i, key, node_pointer(page, h, i), i as u64);
         found = unrisen(i, before, key, found);
         start = end;
@@ -159,8 +164,8 @@ fn copy_entry(page: &[u8], h: Header, i: usize, key_out: &mut [u8; 32]) -> u64
     ensures answer { λ r. ⌜ r ≡ pointerOf (now (page .entry)) i ⌝ }
     ensures written { λ _. ⌜ now («key_out» .exit) ≡ pack 32 (keyOf (now (page .entry)) i) ⌝ }
 {
-    let start = shape::start_offset(page, i);
-    let key = get_key(page, h, prefix(page, h), i, start, shape::cell(page, i));
+    let s = between(h, shape::start_offset(page, i), shape::cell(page, i));
+    let key = prefix(page, h).with_bits(shape::prefix_bits(h, i), page, s.bit, s.len);
     key.to_bytes(key_out);
     node_pointer(page, h, i)
 }

@@ -74,8 +74,8 @@ loop-holds c = search (needs, laws)
 cell-requires : tie.Need-cell-requires Inv-loop μ-loop
 cell-requires c κs = search (needs, laws)
 
-next-key-requires : tie.Need-next-key-requires Inv-loop μ-loop
-next-key-requires c κs = search (needs, laws)
+get-key-requires : tie.Need-get-key-requires Inv-loop μ-loop
+get-key-requires c κs = search (needs, laws)
 
 node-pointer-requires : tie.Need-node-pointer-requires Inv-loop μ-loop
 node-pointer-requires c κs = search (needs, laws)
@@ -98,11 +98,11 @@ loop-again c = (
   search needs,
   search (needs, start-next),
   more _ _ _ _ _ _ _ (c .before .before .before .before .before .before .before .before .before .loop .inv .3)
-      (c .before .before .before .before .before .before .next-key .ensures)
+      (c .before .before .before .before .before .before .get-key .ensures)
       (c .before .before .before .before .node-pointer .ensures)
       (c .before .before .before .set-row .ensures),
   higher _ _ _ _ _ _ (c .before .before .before .before .before .before .before .before .before .loop .inv .4)
-      (c .before .before .before .before .before .before .next-key .ensures) (c .unrisen .ensures),
+      (c .before .before .before .before .before .before .get-key .ensures) (c .unrisen .ensures),
 )
 
 same-length : tie.Need-same-length Inv-loop μ-loop
@@ -121,7 +121,7 @@ load-rows-spec =
     zero-requires
     loop-holds
     cell-requires
-    next-key-requires
+    get-key-requires
     node-pointer-requires
     set-row-requires
     unrisen-requires
