@@ -2,6 +2,7 @@
 // keys rise. Each row's last word is the entry's position in the base, or 1,024. Document 01, "Edit
 // record", and the refusals 10 to 13.
 // What it means: `apply` and `ascending` of format's specs/Edit.antt, and specs/Apply.antt.
+#![tactic(auto)]
 ghost use Rattle.std.specs.Prelude.{true, ◌≡◌, ◌+◌, ◌-◌, ◌^◌, ◌≤◌, ◌<◌};
 ghost use Rattle.format.specs.Build.{edits_of};
 ghost use Rattle.format.specs.Edit.{read_record};

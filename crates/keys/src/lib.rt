@@ -1,5 +1,6 @@
 // A key of 256 bits, as four words by value, the most significant first. Its bits: `key_bits` of
 // specs/Keys.antt.
+#![tactic(auto)]
 ghost use Rattle.std.specs.Prelude.{◌≡◌, ◌++◌, ◌+◌, ◌-◌, ◌≤◌, ◌<◌, take, drop, replicate};
 ghost use Rattle.format.specs.Bits.{bits, bits_of, fill, pack};
 ghost use Rattle.format.specs.Key.{separator_length, shared_bits, below};

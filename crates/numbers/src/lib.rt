@@ -2,6 +2,8 @@
 // take; and the numbers that bytes of a slice hold, least significant byte first. Each public
 // function is total: bytes past the end read as zeros.
 // What they mean: `bytes_for` and `unle` of format's specs/Bits.antt.
+#![tactic(auto)]
+
 ghost use Rattle.std.specs.Prelude.{◌≡◌, ◌+◌, ◌-◌, ◌^◌, ◌<◌, ◌≤◌, min, length, take, drop, get_or};
 ghost use Rattle.format.specs.Bits.{bytes_for, unle};
 

@@ -6,6 +6,7 @@
 // It reads files, calls the library and prints. A message on standard error names the file that is
 // to blame; a refusal has its number and document 01's words. PAGE and UNDO are written after an
 // accepted build alone, UNDO first, so that no page is replaced without the way back.
+#![tactic(auto)]
 mod digits;
 mod files;
 mod records;

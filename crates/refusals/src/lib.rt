@@ -1,5 +1,6 @@
 // The number of a refusal, as document 01 has it. What it means: `refusal_number` of format's
 // specs/Refusals.antt.
+#![tactic(auto)]
 ghost use Rattle.std.specs.Prelude.{◌≡◌};
 ghost use Rattle.format.specs.Refusals.{refusal_number};
 

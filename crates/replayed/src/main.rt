@@ -2,6 +2,7 @@
 // tools/sample.py writes, and those of data/frozen, the Rust's own answers that tests/oracle writes.
 // For each file it prints its name and a line for each operation: the operation's name, how many
 // cases ran, and how many of them came out otherwise than they should.
+#![tactic(auto)]
 mod bits;
 mod builds;
 mod cases;

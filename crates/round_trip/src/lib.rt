@@ -1,6 +1,7 @@
 // Demand 3 as a program: a build, the build that brings the base back, and the build that brings the
 // new page again, each held against what it must give. What it means: specs/Trip.antt.
 // It takes some 250 KB of stack, with the build that runs in it, and no heap.
+#![tactic(auto)]
 ghost use Rattle.std.specs.Prelude.{◌≡◌};
 ghost use Rattle.format.specs.Build.{build};
 ghost use Rattle.round_trip.specs.Trip.{Agreed, brings_again, brings_back, is_normal, trip_answer};

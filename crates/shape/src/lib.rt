@@ -11,6 +11,7 @@
 // Numbers are little-endian, bits most significant first. Any bytes may come: nothing is read
 // outside the page, and no key is read.
 // What a page means: format's specs/Page.antt. What the answers mean: specs/Shape.antt.
+#![tactic(auto)]
 ghost use Rattle.std.specs.Prelude.{◌≡◌, cond, ◌||◌, ◌<◌, ◌≤◌, eqb, leb, ltb};
 ghost use Rattle.format.specs.Page.{body_bytes, end_of, start_of};
 ghost use Rattle.shape.specs.Shape.{Shaping, SizesFit, Sizing, check_shape, checked_answer};

@@ -1,6 +1,7 @@
 // The size formulas, on numbers of 64 bits. Only the exact result counts: it is answered, or refused
 // with 19 where it is below zero or does not fit 64 bits. What they mean: format's
 // specs/Sizes.antt, and `size_answer` of specs/Sizes.antt.
+#![tactic(auto)]
 ghost use Rattle.std.specs.Prelude.{◌≡◌, ◌+◌, ◌*◌, ◌/◌, ◌^◌, ◌<◌};
 ghost use Rattle.format.specs.Sizes.{difference, body_size, whole_from_stored, stored_from_whole};
 ghost use Rattle.sizes.specs.Sizes.{size_answer};

@@ -2,6 +2,7 @@
 // pointer to 32 bytes; lent memory must not overlap. Each call hands on to the crate that proves
 // it, and tells its answer in numbers: document 01's number of the refusal, 0 for none. After a
 // refusal lent memory is as it was. include/trussember.h says the same in C.
+#![tactic(auto)]
 pub mod answers;
 
 ghost use Rattle.std.specs.Prelude.{◌≡◌};
