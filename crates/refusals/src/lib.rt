@@ -1,12 +1,14 @@
 // The number of a refusal, as document 01 has it. What it means: `refusal_number` of format's
 // specs/Refusals.antt.
 #![tactic(auto)]
+
 ghost use Rattle.std.specs.Prelude.{◌≡◌};
 ghost use Rattle.format.specs.Refusals.{refusal_number};
 
 use format::refusal::Refusal;
 
 // Document 01's number.
+#[tactic(auto, unfolding(format::specs::Refusals::refusal_number))]
 pub fn number(why: Refusal) -> u64
     ensures answer { result ≡ refusal_number why }
 {

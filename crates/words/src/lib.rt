@@ -2,6 +2,7 @@
 // is total: bytes past the end read as zeros, and a word that does not fit is not stored.
 // What they mean: `bits`, `bits_of` and `fill` of format's specs/Bits.antt, and specs/Words.antt.
 #![tactic(auto)]
+
 ghost use Rattle.std.specs.Prelude.{◌≡◌, ◌++◌, ◌+◌, ◌-◌, ◌*◌, ◌%◌, ◌^◌, ◌<◌, ◌≤◌, length, take, drop};
 ghost use Rattle.format.specs.Bits.{bits, bits_of, fill, pack};
 ghost use Rattle.words.specs.Words.{window_bits, with_first, with_word, word_bits};
