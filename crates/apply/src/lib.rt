@@ -23,14 +23,14 @@ use rows::table;
 const NONE: u64 = 1024;
 
 // How many new entries there are, or why there are none. What it means: `edited_answer`.
-#[derive(Drop)]
+#[derive(Clone, Copy)]
 pub enum Edited {
     Entries(usize),
     Refused(Refusal),
 }
 
 // How many entries are laid, whether all so far rose, and the key of the last.
-#[derive(Drop)]
+#[derive(Clone, Copy)]
 struct State {
     n: usize,
     rising: bool,

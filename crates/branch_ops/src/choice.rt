@@ -13,7 +13,7 @@ use format::refusal::Refusal;
 use rows::table;
 
 // How many entries leave the prefix out, its bits, and the bits of prefix and separators together.
-#[derive(Drop)]
+#[derive(Clone, Copy)]
 pub struct Choice {
     pub m: usize,
     pub q: usize,
@@ -21,14 +21,14 @@ pub struct Choice {
 }
 
 // The choice taken, or why there is none. What it means: `choice_answer`.
-#[derive(Drop)]
+#[derive(Clone, Copy)]
 pub enum Chosen {
     Taken(Choice),
     Refused(Refusal),
 }
 
 // A choice, and how many bits it saves.
-#[derive(Drop)]
+#[derive(Clone, Copy)]
 struct Saving {
     m: usize,
     q: usize,

@@ -54,7 +54,7 @@ fn put_edit(d: &mut [u8], p: usize, e: Edit)
 }
 
 // How many edits are written, and the bit behind the last.
-#[derive(Drop)]
+#[derive(Clone, Copy)]
 pub struct RecordWriter {
     pub edits: usize,
     pub bit: usize,

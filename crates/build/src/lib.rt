@@ -19,7 +19,7 @@ use node::reader;
 use shape::{Checked, Header};
 
 // What an accepted build answers: n, m, q and bits of the new page, and the undo record's length.
-#[derive(Drop)]
+#[derive(Clone, Copy)]
 pub struct Numbers {
     pub n: usize,
     pub m: usize,
@@ -29,7 +29,7 @@ pub struct Numbers {
 }
 
 // What a build answers: the new page's numbers, or one of 1 to 15.
-#[derive(Drop)]
+#[derive(Clone, Copy)]
 pub enum Built {
     Page(Numbers),
     Refused(Refusal),

@@ -28,7 +28,7 @@ use rows::table;
 
 // How far the bits of a page are written: n entries, and the end of the last one's separator in
 // bits from the prefix's end.
-#[derive(Drop)]
+#[derive(Clone, Copy)]
 pub struct BranchNodeBuilder {
     pub n: usize,
     pub bit_offset: usize,

@@ -5,7 +5,7 @@ ghost use Rattle.edits.specs.Record.{edit_meant};
 
 use keys::Key;
 
-#[derive(Drop)]
+#[derive(Clone, Copy)]
 pub enum Edit {
     // A key and its pointer.
     Insert(Key, u64),

@@ -25,7 +25,7 @@ use format::refusal::{Outcome, Refusal};
 use keys::Key;
 
 // The fields in an edit's first 44 bits: kind; position or start; end; pointer of an Update.
-#[derive(Drop)]
+#[derive(Clone, Copy)]
 struct Head {
     kind: u64,
     place: usize,

@@ -1,7 +1,7 @@
 // The refusals of document 01, a case for each, named by its cause. Its number: `refusal_number` of
 // specs/Refusals.antt.
 
-#[derive(Drop)]
+#[derive(Clone, Copy)]
 pub enum Refusal {
     // 1: the page's length is not 4,096.
     PageLength,
@@ -44,7 +44,7 @@ pub enum Refusal {
 }
 
 // What a call answers that gives no value: it is done, or refused. Its number: `outcome_number`.
-#[derive(Drop)]
+#[derive(Clone, Copy)]
 pub enum Outcome {
     Done,
     Refused(Refusal),

@@ -1,12 +1,13 @@
 // A key of 256 bits, as four words by value, the most significant first. Its bits: `key_bits` of
 // specs/Keys.antt.
 #![tactic(auto)]
+
 ghost use Rattle.std.specs.Prelude.{◌≡◌, ◌++◌, ◌+◌, ◌-◌, ◌≤◌, ◌<◌, take, drop, replicate};
 ghost use Rattle.format.specs.Bits.{bits, bits_of, fill, pack};
 ghost use Rattle.format.specs.Key.{separator_length, shared_bits, below};
 ghost use Rattle.keys.specs.Keys.{key_bits};
 
-#[derive(Drop)]
+#[derive(Clone, Copy)]
 pub struct Key {
     pub a: u64,
     pub b: u64,

@@ -34,7 +34,7 @@ use rows::table;
 use shape::{Checked, Header};
 
 // What reading an entry answers: its pointer, or one of 1 to 8, or 16.
-#[derive(Drop)]
+#[derive(Clone, Copy)]
 pub enum EntryRead {
     Pointer(u64),
     Refused(Refusal),
@@ -59,7 +59,7 @@ fn prefix(page: &[u8], h: Header) -> Key
 }
 
 // Where a separator stands in a page: its first bit, and how many it has.
-#[derive(Drop)]
+#[derive(Clone, Copy)]
 struct Separator {
     bit: usize,
     len: usize,

@@ -16,7 +16,7 @@ use shape::{Checked, Header};
 
 // What a round trip answers: the new page's numbers where all three builds agree, that they do not,
 // or the first build's refusal.
-#[derive(Drop)]
+#[derive(Clone, Copy)]
 pub enum Trip {
     Agrees(Numbers),
     Differs,

@@ -12,6 +12,7 @@
 // outside the page, and no key is read.
 // What a page means: format's specs/Page.antt. What the answers mean: specs/Shape.antt.
 #![tactic(auto)]
+
 ghost use Rattle.std.specs.Prelude.{◌≡◌, cond, ◌||◌, ◌<◌, ◌≤◌, eqb, leb, ltb};
 ghost use Rattle.format.specs.Page.{body_bytes, end_of, start_of};
 ghost use Rattle.shape.specs.Shape.{Shaping, SizesFit, Sizing, check_shape, checked_answer};
@@ -20,7 +21,7 @@ use format::layout;
 use format::refusal::Refusal;
 
 // What a page's header says, and how many bits prefix and separators have.
-#[derive(Drop)]
+#[derive(Clone, Copy)]
 pub struct Header {
     pub number: u64,
     pub n: usize,
@@ -30,7 +31,7 @@ pub struct Header {
 }
 
 // What checking a page answers: its header, or one of 1 to 8.
-#[derive(Drop)]
+#[derive(Clone, Copy)]
 pub enum Checked {
     Page(Header),
     Refused(Refusal),

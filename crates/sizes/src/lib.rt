@@ -2,6 +2,7 @@
 // with 19 where it is below zero or does not fit 64 bits. What they mean: format's
 // specs/Sizes.antt, and `size_answer` of specs/Sizes.antt.
 #![tactic(auto)]
+
 ghost use Rattle.std.specs.Prelude.{◌≡◌, ◌+◌, ◌*◌, ◌/◌, ◌^◌, ◌<◌};
 ghost use Rattle.format.specs.Sizes.{difference, body_size, whole_from_stored, stored_from_whole};
 ghost use Rattle.sizes.specs.Sizes.{size_answer};
@@ -9,7 +10,7 @@ ghost use Rattle.sizes.specs.Sizes.{size_answer};
 use format::refusal::Refusal;
 
 // What a size formula answers: the size, or 19.
-#[derive(Drop)]
+#[derive(Clone, Copy)]
 pub enum Size {
     Is(usize),
     Refused(Refusal),

@@ -3,7 +3,7 @@
 
 // A check: the page's header, and how many bits prefix and separators have.
 #[repr(C)]
-#[derive(Drop)]
+#[derive(Clone, Copy)]
 pub struct Checked {
     pub refusal: u64,
     pub number: u64,
@@ -15,7 +15,7 @@ pub struct Checked {
 
 // The reading of an entry: its pointer.
 #[repr(C)]
-#[derive(Drop)]
+#[derive(Clone, Copy)]
 pub struct EntryRead {
     pub refusal: u64,
     pub pointer: u64,
@@ -23,7 +23,7 @@ pub struct EntryRead {
 
 // A build: what the new page's header says, its bits, and the undo record's length.
 #[repr(C)]
-#[derive(Drop)]
+#[derive(Clone, Copy)]
 pub struct Built {
     pub refusal: u64,
     pub n: u64,
@@ -35,7 +35,7 @@ pub struct Built {
 
 // A size formula: its value.
 #[repr(C)]
-#[derive(Drop)]
+#[derive(Clone, Copy)]
 pub struct Size {
     pub refusal: u64,
     pub value: u64,

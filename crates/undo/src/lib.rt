@@ -17,7 +17,7 @@ use rows::table;
 
 // How far the walk has come: what is written, the position in the new rows, and the run of kept rows
 // that is still open, from start up to end; none is where they are equal.
-#[derive(Drop)]
+#[derive(Clone, Copy)]
 struct Walk {
     writer: RecordWriter,
     at: usize,

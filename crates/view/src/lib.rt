@@ -13,7 +13,7 @@ use node::reader;
 use node::reader::EntryRead;
 
 // What reading an entry answers: its key and pointer, or one of 1 to 8, or 16.
-#[derive(Drop)]
+#[derive(Clone, Copy)]
 pub enum Seen {
     Entry(Key, u64),
     Refused(Refusal),
@@ -31,7 +31,7 @@ pub fn read_at(page: &[u8], index: usize) -> Seen
 }
 
 // A page, by its bytes. Any bytes will do: they are checked when an entry is read.
-#[derive(Drop)]
+#[derive(Clone, Copy)]
 pub struct BranchNodeView<'a> {
     pub inner: &'a [u8],
 }

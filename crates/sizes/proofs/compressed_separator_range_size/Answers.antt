@@ -1,0 +1,57 @@
+-- `sizes::compressed_separator_range_size` meets its contract: what is taken off is (m - 1) q.
+-- Assumes nothing.
+use mathlib.Core.Path.{◌≡◌, sym, ap, ◌∙◌}
+use Prim.Native.Nat.{ℕ, suc, ◌+◌, ◌-◌, ◌*◌, ◌^◌, ◌<◌}
+use native.Mathlib.Omega.{arith}
+use Rattle.format.specs.Answer.{Answer}
+use Rattle.format.specs.Sizes.{difference, stored_from_whole}
+use Rattle.sizes.specs.declared.Size.{Size}
+use Rattle.sizes.specs.Sizes.{size_answer}
+use Rattle.sizes.proofs.SizesLaws.{diff_same}
+use Rattle.std.proofs.Common.{rules}
+use Rattle.sizes.proofs.compressed_separator_range_size.Goals as goal
+
+no_items : (first m others q : ℕ) → m ≡ 0 → Answer.Refused 19 ≡ stored_from_whole first m others q
+unfolding stored_from_whole
+no_items first m others q z = sym (ap (λ (x : ℕ). stored_from_whole first x others q) z)
+
+head_fits : (first q h : ℕ) → h ≡ first - q → first < 2 ^ 64 → q < 2 ^ 64 → h + q < 2 ^ 64
+head_fits first q h eh k kq = omega arith
+
+module _ (first m others q h : ℕ) (eh : h ≡ first - q) (some : m ≡ 0 → ⊥) (r : Size) where
+  shaped : stored_from_whole first m others q ≡ difference (first - q + others) ((m - 1) * q)
+  unfolding stored_from_whole
+  shaped =
+      let e : m ≡ suc (m - 1) = omega (arith, some) in
+      ap (λ (x : ℕ). stored_from_whole first x others q) e
+
+  no_prefix : q ≡ 0 → size_answer r ≡ difference (h + others + 0) 0 → size_answer r ≡ stored_from_whole first m others q
+  no_prefix z e =
+      let p : (m - 1) * q ≡ 0 = ap (λ (x : ℕ). (m - 1) * x) z ∙ omega arith in
+      e ∙ diff_same (first - q + others) ((m - 1) * q) (h + others + 0) (omega arith) ∙ sym shaped
+
+  less : size_answer r ≡ difference (h + others) ((m - 1) * q) → size_answer r ≡ stored_from_whole first m others q
+  less e = e ∙ ap (λ (x : ℕ). difference (x + others) ((m - 1) * q)) eh ∙ sym shaped
+
+ruleset laws = (no_items, head_fits, no_prefix, less)
+
+pub returns-then-prefix_compressed_items-eq0 : goal.returns-then-prefix_compressed_items-eq0
+returns-then-prefix_compressed_items-eq0 c = search (rules, laws)
+
+pub over-head-requires : goal.over-head-requires
+over-head-requires c = search (rules, laws)
+
+pub total-requires : goal.total-requires
+total-requires c = search (rules, laws)
+
+pub returns-then-prefix_len-eq0 : goal.returns-then-prefix_len-eq0
+returns-then-prefix_len-eq0 c = search (rules, laws)
+
+pub overflow_sub-prefix_compressed_items : goal.overflow_sub-prefix_compressed_items
+overflow_sub-prefix_compressed_items c = search (rules, laws)
+
+pub reduced-requires : goal.reduced-requires
+reduced-requires c = search (rules, laws)
+
+pub returns : goal.returns
+returns c = search (rules, laws)
