@@ -1,6 +1,7 @@
 // Bit copy between byte slices, bits most significant first. Document 01, "The page" and refusal 18;
 // its meaning stands in format's specs/Ranges.antt, what the call promises in specs/Calls.antt.
 #![tactic(auto)]
+
 mod runs;
 
 ghost use Rattle.std.specs.Prelude.{◌≡◌};

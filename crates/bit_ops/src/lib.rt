@@ -3,6 +3,7 @@
 // specs/Key.antt and specs/Ranges.antt, what each call that writes promises in specs/Calls.antt.
 // Bit copy stands in `bit_copy`.
 #![tactic(auto)]
+
 ghost use Rattle.std.specs.Prelude.{◌≡◌, ◌≤◌, take};
 ghost use Rattle.format.specs.Bits.{bits_of, fill, pack};
 ghost use Rattle.format.specs.Key.{below, shared_bits, separator_length};
