@@ -1,0 +1,105 @@
+-- `node::reader::load_rows` meets its contract. The loop's invariant: the table has the first i entries in its rows,
+-- `found` tells whether one of their keys is not above the one before, `before` is the last of them, and the next
+-- separator starts at `start`. The measure is what is left of n.
+-- Assumes nothing.
+use mathlib.Core.Bool.{Bool, false, cond, not, ◌||◌}
+use mathlib.Core.List.{List}
+use mathlib.Core.Path.{◌≡◌, ap, ap₂, ◌∙◌}
+use Prim.Native.Nat.{ℕ, ◌+◌, ◌-◌, ◌≤◌, ◌<◌}
+use native.Mathlib.Omega.{arith}
+use lib.Dec.{eqb}
+use Rattle.format.specs.Key.{below}
+use Rattle.format.specs.Page.{each, entries, entry_of, key_of, pointer_of, start_of}
+use Rattle.keys.specs.declared.Key.{Key}
+use Rattle.keys.specs.Keys.{key_bits}
+use Rattle.rows.specs.Rows.{with_row, with_rows}
+use Rattle.shape.specs.declared.Header.{Header}
+use Rattle.shape.specs.Shape.{SizesFit, unordered}
+use Rattle.shape.proofs.TestsLaws.{start_first, start_next}
+use Rattle.node.proofs.RisingLaws.{Rising, rising_none, rising_more}
+use Rattle.node.proofs.LoadedLaws.{Filled, filled_none, filled_more, filled_length, filled_all}
+use Rattle.std.proofs.Common.{rules}
+use Rattle.node.proofs.reader.load_rows.Goals as goal
+
+begin : (p t : List ℕ) → Filled (entry_of p) t 0 t
+begin p t = filled_none (entry_of p) t
+
+begin_rising : (p : List ℕ) (k : Key) → Rising (key_of p) 0 k false
+begin_rising p k = rising_none (key_of p) k
+
+-- one entry more in its row
+more : (p t₀ t u : List ℕ) (i : ℕ) (k : Key) (x : ℕ) → Filled (entry_of p) t₀ i t → key_bits k ≡ key_of p i
+    → x ≡ pointer_of p i
+    → u ≡ with_row t i (record { key = key_bits k; pointer = x }) i → Filled (entry_of p) t₀ (i + 1) u
+unfolding entry_of
+more p t₀ t u i k x f ek ex eu =
+    filled_more (entry_of p) t₀ t u i (record { key = key_bits k; pointer = x }) f
+    (ap₂ (λ (y : List ℕ) (z : ℕ). record { key = y; pointer = z }) ek ex) eu
+
+-- one key more
+higher : (p : List ℕ) (i : ℕ) (k l : Key) (b r : Bool) → Rising (key_of p) i k b → key_bits l ≡ key_of p i
+    → r ≡ cond (eqb i 0) b (not (below (key_bits k) (key_bits l)) || b) → Rising (key_of p) (i + 1) l r
+higher p i k l b r so e er = rising_more (key_of p) i k l b r so e er
+
+all : (p t₀ t : List ℕ) (h : Header) (i : ℕ) → SizesFit p h → Filled (entry_of p) t₀ i t → i ≤ h.n → h.n ≤ i
+    → t ≡ with_rows t₀ 0 (entries p)
+unfolding entries
+all p t₀ t h i s f l l' =
+    filled_all (entry_of p) t₀ t h.n i f l l' ∙ ap (λ (n : ℕ). with_rows t₀ 0 (each n (entry_of p))) s.n_is
+
+all_rising : (p : List ℕ) (n i : ℕ) (k : Key) (b : Bool) → Rising (key_of p) i k b → i ≤ n → n ≤ i
+    → b ≡ unordered (key_of p) n
+all_rising p n i k b so l l' =
+    let e : i ≡ n = omega arith in
+    so.found ∙ ap (unordered (key_of p)) e
+
+ruleset laws = (start_first, start_next, begin, begin_rising, more, higher, filled_length, all, all_rising)
+
+pub prefix-shared-requires : goal.prefix-shared-requires
+prefix-shared-requires c = search (rules, laws)
+
+pub zero-before-requires : goal.zero-before-requires
+zero-before-requires c = search (rules, laws)
+
+pub loop-i-init : goal.loop-i-init
+loop-i-init c = search (rules, laws)
+
+pub cell-end-requires : goal.cell-end-requires
+cell-end-requires c = search (rules, laws)
+
+pub get_key-key-requires : goal.get_key-key-requires
+get_key-key-requires c = search (rules, laws)
+
+pub node_pointer-requires : goal.node_pointer-requires
+node_pointer-requires c = search (rules, laws)
+
+pub set_row-requires : goal.set_row-requires
+set_row-requires c = search (rules, laws)
+
+pub unrisen-found-requires : goal.unrisen-found-requires
+unrisen-found-requires c = search (rules, laws)
+
+pub overflow_add-i : goal.overflow_add-i
+overflow_add-i c = search (rules, laws)
+
+pub loop-i-smaller : goal.loop-i-smaller
+loop-i-smaller c = search (rules, laws)
+
+pub loop-i-preserved : goal.loop-i-preserved
+loop-i-preserved c = (
+  search rules,
+  search rules,
+  search (rules, start_next),
+  more _ _ _ _ _ _ _ c.before.before.before.before.before.before.before.before.before.loop.invariant.3
+      c.before.before.before.before.before.before.get_key.ensures
+      c.before.before.before.before.node-pointer.ensures
+      c.before.before.before.set-row.ensures,
+  higher _ _ _ _ _ _ c.before.before.before.before.before.before.before.before.before.loop.invariant.4
+      c.before.before.before.before.before.before.get_key.ensures c.unrisen.ensures,
+)
+
+pub shape_of-t : goal.shape_of-t
+shape_of-t c = search (rules, laws)
+
+pub returns : goal.returns
+returns c = search (rules, laws)
