@@ -3,6 +3,7 @@
 // record", and the refusals 10 to 13.
 // What it means: `apply` and `ascending` of format's specs/Edit.antt, and specs/Apply.antt.
 #![tactic(auto)]
+
 ghost use Rattle.std.specs.Prelude.{true, ◌≡◌, ◌+◌, ◌-◌, ◌^◌, ◌≤◌, ◌<◌};
 ghost use Rattle.format.specs.Build.{edits_of};
 ghost use Rattle.format.specs.Edit.{read_record};

@@ -90,12 +90,12 @@ loop-i-preserved c = (
   search rules,
   search rules,
   search (rules, start_next),
-  more _ _ _ _ _ _ _ c.before.before.before.before.before.before.before.before.before.loop.invariant.3
-      c.before.before.before.before.before.before.get_key.ensures
-      c.before.before.before.before.node-pointer.ensures
-      c.before.before.before.set-row.ensures,
-  higher _ _ _ _ _ _ c.before.before.before.before.before.before.before.before.before.loop.invariant.4
-      c.before.before.before.before.before.before.get_key.ensures c.unrisen.ensures,
+  more _ _ _ _ _ _ _ c.loop-i.invariant.3
+      c.get_key-key.ensures.answer
+      c.node_pointer.ensures.answer
+      c.set_row.ensures.written,
+  higher _ _ _ _ _ _ c.loop-i.invariant.4
+      c.get_key-key.ensures.answer c.unrisen-found.ensures.answer,
 )
 
 pub shape_of-t : goal.shape_of-t

@@ -1,0 +1,16 @@
+-- `apply::lay_all` meets its contract: after i edits the pass over the items of the rest leaves what the pass over all
+-- does (`Applying`), and one that fell leaves it as it is.
+-- Assumes nothing.
+use mathlib.Core.Path.{◌≡◌}
+use Prim.Native.Nat.{◌+◌, ◌-◌, ◌*◌, ◌≤◌, ◌<◌}
+use lib.ListN.{length}
+use Rattle.apply.proofs.PassLaws.{Applying, applying_start, applying_next, applying_stop, applying_end}
+use Rattle.std.proofs.Common.{rules}
+use Rattle.apply.proofs.lay_all.Given as goal
+
+abbrev pub invariant-loop-i : goal.invariant-loop-i
+invariant-loop-i l =
+    (length l.t ≡ length l.initial.t) × (l.i ≤ l.k) × (l.k < 1024) × (l.p ≤ 10 + 290 * l.i) × Applying l.s l.base l.initial.t l.k l.i l.p l.t l.l
+
+abbrev pub decreases-loop-i : goal.decreases-loop-i
+decreases-loop-i l = l.k - l.i

@@ -1,0 +1,20 @@
+-- `parts::fields::put_pointers` meets its contract: because it goes by the tests of `with_pointers`, and each turn
+-- stores the pointer of one row more.
+-- Assumes nothing.
+use Rattle.std.proofs.Common.{rules}
+use Rattle.parts.proofs.fields.put_pointers.Given as goal
+use mathlib.Core.Path.{◌≡◌}
+use Prim.Native.Nat.{◌-◌, ◌*◌, ◌≤◌}
+use lib.ListN.{length}
+use Rattle.format.specs.Normal.{pointers}
+use Rattle.rows.specs.Rows.{rows}
+use Rattle.parts.proofs.PartLaws.{Written, pointers_start_lem, pointers_more, pointers_room, pointers-end}
+use Rattle.parts.proofs.PartLaws.{pointers_many, pointers_other}
+
+abbrev pub invariant-loop-i : goal.invariant-loop-i
+invariant-loop-i l =
+    (length l.part ≡ length l.initial.part) × (length l.initial.part ≡ 4 * l.n) × (l.i ≤ l.n) × (l.n ≤ 681)
+    × Written 4 (pointers (rows l.n l.t)) l.part l.i
+
+abbrev pub decreases-loop-i : goal.decreases-loop-i
+decreases-loop-i l = l.n - l.i

@@ -1,0 +1,13 @@
+-- `parts::fields::stored_sum` meets its contract: because it goes by the same test as `stored_sum`, and each turn
+-- adds the stored length of one row more.
+-- Assumes nothing.
+use Rattle.std.proofs.Common.{rules}
+use Rattle.parts.proofs.fields.stored_sum.Given as goal
+use Prim.Native.Nat.{◌-◌}
+use Rattle.parts.proofs.PartLaws.{Summed, summed_start, summed_more, summed_end, summed_small, summed_many}
+
+abbrev pub invariant-loop-i : goal.invariant-loop-i
+invariant-loop-i l = Summed l.t l.n l.m l.q l.end l.i
+
+abbrev pub decreases-loop-i : goal.decreases-loop-i
+decreases-loop-i l = l.n - l.i
