@@ -3,6 +3,7 @@
 // `read_entry` goes by way of it, and has plain parameters for every other caller.
 // What the answers mean: specs/Seen.antt.
 #![tactic(auto)]
+
 ghost use Rattle.std.specs.Prelude.{◌≡◌};
 ghost use Rattle.format.specs.Page.{read_entry};
 ghost use Rattle.view.specs.Seen.{seen_answer};

@@ -32,8 +32,11 @@ pub shape_of-d-then-h-gt0 : goal.shape_of-d-then-h-gt0
 shape_of-d-then-h-gt0 c = search (rules, laws)
 
 pub returns-then-h-gt0 : goal.returns-then-h-gt0
-returns-then-h-gt0 c = cleared_part _ _ _ _ _ c.if-d-i.false c.if-h-gt0.true c.bitwise_memcpy.ensures (search rules)
-    c.clear_bytes.ensures.written (search rules) (search rules)
+returns-then-h-gt0 c = record {
+  written =
+      cleared_part _ _ _ _ _ c.if-d-i.false c.if-h-gt0.true c.bitwise_memcpy.ensures (search rules)
+      c.clear_bytes.ensures.written (search rules) (search rules);
+}
 
 pub shape_of-d-else-h-gt0 : goal.shape_of-d-else-h-gt0
 shape_of-d-else-h-gt0 c = search (rules, laws)

@@ -50,8 +50,10 @@ pub shape_of-d : goal.shape_of-d
 shape_of-d c = search (rules, whole-key)
 
 pub returns : goal.returns
-returns c =
-    let pre = c.requires in
-    whole-key _ _ _ _ _ _ _ _ _ _ _ _ _ pre.0 pre.1 c.put_in_word.ensures.written c.across.ensures.answer
-    c.store.ensures.written c.across-2.ensures.answer c.store-2.ensures.written c.across-3.ensures.answer c.store-3.ensures.written
-    c.across-4.ensures.answer c.put_in_word-2.ensures.written (search rules)
+returns c = record {
+  written =
+      let pre = c.requires in
+      whole-key _ _ _ _ _ _ _ _ _ _ _ _ _ pre.0 pre.1 c.put_in_word.ensures.written c.across.ensures.answer
+      c.store.ensures.written c.across-2.ensures.answer c.store-2.ensures.written c.across-3.ensures.answer c.store-3.ensures.written
+      c.across-4.ensures.answer c.put_in_word-2.ensures.written (search rules);
+}

@@ -46,12 +46,12 @@ loop-i-smaller c = search (rules, laws)
 
 pub loop-i-preserved : goal.loop-i-preserved
 loop-i-preserved c = (
-      search rules,
-      search rules,
-      search (rules, laws),
-      offsets_more _ _ _ _ _ _ _ _ _ c.loop-i.invariant.2 c.loop-i.invariant.3 c.loop-i-test.true
-          c.stored_len-end.ensures.answer.0 c.put_pair.ensures.written,
-    )
+  search rules,
+  search rules,
+  search (rules, laws),
+  offsets_more _ _ _ _ _ _ _ _ _ c.loop-i.invariant.2 c.loop-i.invariant.3 c.loop-i-test.true
+      c.stored_len-end.ensures.answer.0 c.put_pair.ensures.written,
+)
 
 pub shape_of-part : goal.shape_of-part
 shape_of-part c = search (rules, laws)

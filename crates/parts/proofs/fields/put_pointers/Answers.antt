@@ -42,13 +42,13 @@ loop-i-smaller c = search (rules, laws)
 
 pub loop-i-preserved : goal.loop-i-preserved
 loop-i-preserved c = (
-      search rules,
-      search rules,
-      search rules,
-      search rules,
-      pointers_more _ _ _ _ _ _ c.loop-i.invariant.4 c.loop-i-test.true
-          c.pointer_of.ensures.answer c.put_quad.ensures.written,
-    )
+  search rules,
+  search rules,
+  search rules,
+  search rules,
+  pointers_more _ _ _ _ _ _ c.loop-i.invariant.4 c.loop-i-test.true
+      c.pointer_of.ensures.answer c.put_quad.ensures.written,
+)
 
 pub shape_of-part : goal.shape_of-part
 shape_of-part c = search (rules, laws)
