@@ -1,0 +1,20 @@
+-- `branch_ops::writer::update_number` meets its contract: each field is below the power of two that the one above it is
+-- multiplied by.
+-- Assumes nothing.
+use Rattle.std.proofs.Common.{rules}
+use Rattle.branch_ops.proofs.writer.update_number.Goals as goal
+use Rattle.branch_ops.proofs.PutLaws.{update_bits}
+
+ruleset laws = (update_bits)
+
+pub overflow_add-result : goal.overflow_add-result
+overflow_add-result c = search (rules, laws)
+
+pub overflow_mul-result : goal.overflow_mul-result
+overflow_mul-result c = search (rules, laws)
+
+pub overflow_add-result-2 : goal.overflow_add-result-2
+overflow_add-result-2 c = search (rules, laws)
+
+pub returns : goal.returns
+returns c = search (rules, laws)
