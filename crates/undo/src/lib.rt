@@ -3,6 +3,7 @@
 // What it means: `undo_edits` of format's specs/Undo.antt, and specs/Walk.antt; that the walk makes
 // those edits where both tables' keys rise: `walk-undo_edits` of proofs/WalkLaws.antt.
 #![tactic(auto)]
+
 ghost use Rattle.std.specs.Prelude.{◌≡◌, drop, ◌+◌, ◌^◌, ◌<◌};
 ghost use Rattle.keys.specs.Keys.{key_bits};
 ghost use Rattle.rows.specs.Rows.{row_entry, rows};

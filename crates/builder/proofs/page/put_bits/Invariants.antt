@@ -1,0 +1,19 @@
+-- `builder::page::put_bits` meets its contract: because the prefix, the bits of each row and zeros go one behind the
+-- other.
+-- Assumes nothing.
+use Rattle.std.proofs.Common.{rules}
+use Rattle.builder.proofs.page.put_bits.Given as goal
+use mathlib.Core.Path.{◌≡◌}
+use Prim.Native.Nat.{◌-◌}
+use lib.ListN.{length}
+use Rattle.builder.specs.Writes.{Pushed}
+use Rattle.builder.specs.Over.{over_bits}
+use Rattle.builder.proofs.PushLaws.{pushed_start, pushed_fits, pushed_sum, pushed_size, pushed_end}
+
+abbrev pub invariant-loop-b : goal.invariant-loop-b
+invariant-loop-b l =
+    (length l.part ≡ length l.initial.part)
+    × Pushed (over_bits l.base l.bn l.bm l.t l.m l.q) l.t l.n l.m l.q (length l.part) l.part l.b.bit_offset l.b.n
+
+abbrev pub decreases-loop-b : goal.decreases-loop-b
+decreases-loop-b l = l.n - l.b.n
