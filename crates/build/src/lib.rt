@@ -3,6 +3,7 @@
 // specs/Build.antt. What the answers mean: specs/Built.antt.
 // A build takes some 90 KB of stack, two tables of 682 rows and the undo record, and no heap.
 #![tactic(auto)]
+
 ghost use Rattle.std.specs.Prelude.{◌≡◌, ◌<◌, ◌++◌, length, drop, take};
 ghost use Rattle.format.specs.Normal.{normal_page};
 ghost use Rattle.format.specs.Build.{build};

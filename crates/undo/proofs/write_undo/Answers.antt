@@ -17,7 +17,13 @@ use Rattle.undo.specs.declared.Walk.{Walk}
 use Rattle.undo.specs.Walk.{Walking, closed, stepped, undo_size, walk, walked, walking, writing_of}
 use Rattle.undo.proofs.WalkingLaws.{drop-rows}
 use Rattle.undo.proofs.WrittenLaws.{pending_none, walked-closed}
-use Rattle.undo.proofs.write_undo.Invariants.{Walked, fresh, start}
+use Rattle.undo.proofs.write_undo.Invariants.{Walked, fresh}
+
+start : (base : List ℕ) (n : ℕ) (new : List ℕ) (k : ℕ) (d : List ℕ) (s : RecordWriter) → s ≡ starting_writer
+    → Walked base n new k d 0 (record { writer = s; at = 0; start = 0; end = 0 }) d
+unfolding walking
+start base n new k d s e =
+    record { same = ap (λ (x : RecordWriter). walked (record { writing = writing_of x d; at = 0; start = 0; end = 0 }) (rows n base) (rows k new)) (sym e) }
 
 module _ (base : List ℕ) (n : ℕ) (new : List ℕ) (k : ℕ) (d₀ : List ℕ) (i : ℕ) (w : Walk) (d : List ℕ) (s : Walked base n new k d₀ i w d) where
   more : (v : Walk) (d' : List ℕ) → i < n → walking v d' ≡ stepped (walking w d) (row_entry base i) (rows k new)

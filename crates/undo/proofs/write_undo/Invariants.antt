@@ -18,12 +18,6 @@ use Rattle.undo.specs.Walk.{Walking, closed, stepped, undo_size, walk, walked, w
 use Rattle.undo.proofs.WalkingLaws.{drop-rows}
 use Rattle.undo.proofs.WrittenLaws.{pending_none, walked-closed}
 
-pub start : (base : List ℕ) (n : ℕ) (new : List ℕ) (k : ℕ) (d : List ℕ) (s : RecordWriter) → s ≡ starting_writer
-    → Walked base n new k d 0 (record { writer = s; at = 0; start = 0; end = 0 }) d
-unfolding walking
-start base n new k d s e =
-    record { same = ap (λ (x : RecordWriter). walked (record { writing = writing_of x d; at = 0; start = 0; end = 0 }) (rows n base) (rows k new)) (sym e) }
-
 -- the walk before its first entry
 abbrev pub fresh : List ℕ → Walking
 fresh d = record { writing = writing_of starting_writer d; at = 0; start = 0; end = 0 }
