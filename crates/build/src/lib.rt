@@ -108,7 +108,7 @@ fn finish(
     let n = v.n;
     let len = v.undo;
     page::write_page_over(page, number, base, h.n, h.m, h.q, new, n, v.m, v.q);
-    bytes::copy(&scratch[0..len], undo);
+    undo[..len].copy_from_slice(&scratch[..len]);
 }
 
 // Builds a page with a page number over a base, which has no bytes where there is none, by the edits

@@ -2,6 +2,7 @@
 // new page again, each held against what it must give. What it means: specs/Trip.antt.
 // It takes some 250 KB of stack, with the build that runs in it, and no heap.
 #![tactic(auto)]
+
 ghost use Rattle.std.specs.Prelude.{◌≡◌};
 ghost use Rattle.format.specs.Build.{build};
 ghost use Rattle.round_trip.specs.Trip.{Agreed, brings_again, brings_back, is_normal, trip_answer};
@@ -36,7 +37,7 @@ fn is_normal(base: &[u8], p: &[u8]) -> bool
                 let mut own = [0u8; 4096];
                 let number = numbers::le_u32(base, 0) as u32;
                 page::write_page(&mut own, number, &t, h.n, c.m, c.q);
-                check::same(&own, p)
+                own == *p
             }
         },
     }
@@ -51,7 +52,7 @@ fn brings_again(over: &[u8], rec: &[u8], number: u32, p: &[u8]) -> bool
     let mut undo = [0u8; 24704];
     match build::build(over, rec, number, &mut again, &mut undo) {
         Built::Refused(_) => false,
-        Built::Page(_) => check::same(&again, p),
+        Built::Page(_) => again == *p,
     }
 }
 
