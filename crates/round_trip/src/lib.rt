@@ -37,7 +37,7 @@ fn is_normal(base: &[u8], p: &[u8]) -> bool
                 let mut own = [0u8; 4096];
                 let number = numbers::le_u32(base, 0) as u32;
                 page::write_page(&mut own, number, &t, h.n, c.m, c.q);
-                own == *p
+                own.as_slice() == p
             }
         },
     }
@@ -52,7 +52,7 @@ fn brings_again(over: &[u8], rec: &[u8], number: u32, p: &[u8]) -> bool
     let mut undo = [0u8; 24704];
     match build::build(over, rec, number, &mut again, &mut undo) {
         Built::Refused(_) => false,
-        Built::Page(_) => again == *p,
+        Built::Page(_) => again.as_slice() == p,
     }
 }
 

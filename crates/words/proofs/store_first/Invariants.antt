@@ -1,16 +1,13 @@
 -- `words::store_first` meets its contract. The loop's invariant: the first k bytes are those of the word, and the others
 -- stay. The measure is what is left of the bytes to store.
 -- Assumes nothing.
-use Rattle.std.proofs.Common.{rules}
 use Rattle.words.proofs.store_first.Given as goal
 use mathlib.Core.List.{List}
-use mathlib.Core.Path.{◌≡◌, ap, ap₂, sym, ◌∙◌}
-use Prim.Native.Nat.{ℕ, suc, ◌+◌, ◌-◌, ◌*◌, ◌/◌, ◌%◌, ◌^◌, ◌≤◌, ◌<◌, min}
-use native.Mathlib.Omega.{arith}
-use lib.ListN.{length, get_or, set}
-use lib.Seq.{paste, paste-zero, paste-suc}
-use Rattle.words.specs.Words.{word_bytes, with_first}
-use Rattle.words.proofs.WordsLaws.{length-word_bytes, word_bytes_at}
+use mathlib.Core.Path.{◌≡◌}
+use Prim.Native.Nat.{ℕ, ◌-◌, ◌≤◌, min}
+use lib.ListN.{length}
+use lib.Seq.{paste}
+use Rattle.words.specs.Words.{word_bytes}
 
 -- the first k bytes have been stored
 pub record First (s : List ℕ) (x k : ℕ) (s' : List ℕ) : Type 0 where
