@@ -2,22 +2,10 @@
 -- byte's bits gone through, and a mask of one bit tells whether the next is. The measures are what is left of the bytes
 -- and of the byte's bits.
 -- Assumes nothing.
-use Rattle.std.proofs.Common.{rules}
 use Rattle.bit_ops.proofs.prefix_len.Given as goal
-use mathlib.Core.List.{List}
-use mathlib.Core.Path.{◌≡◌, sym, ap, ◌∙◌}
-use Prim.Native.Nat.{ℕ, ◌+◌, ◌-◌, ◌*◌, ◌/◌, ◌%◌, ◌^◌, ◌≤◌, ◌<◌}
-use native.Mathlib.Nat.{one-mul}
-use native.Mathlib.Numerals.{add-one}
-use native.Mathlib.Omega.{arith}
-use lib.Bits.{bit_and, and_high}
-use lib.ListN.{length, get_or}
-use lib.Pow.{pow-add, shl_exact, shl-shr}
-use Rattle.format.specs.Bits.{bits_of}
-use Rattle.format.specs.Key.{shared_bits}
-use Rattle.facts.proofs.BitsLaws.{length-bits_of}
-use Rattle.bit_copy.proofs.FieldLaws.{get_or-bits_of}
-use Rattle.bit_ops.proofs.SharedLaws.{SharedTo, SharedTo_start, SharedTo_all, shared_bits_next, shared_bits-end}
+use mathlib.Core.Path.{◌≡◌}
+use Prim.Native.Nat.{◌+◌, ◌-◌, ◌*◌, ◌≤◌}
+use Rattle.bit_ops.proofs.SharedLaws.{SharedTo}
 
 abbrev pub invariant-loop-bit : goal.invariant-loop-bit
 invariant-loop-bit l = (l.bit ≤ 8) × (l.n ≡ 8 * l.byte + l.bit) × SharedTo l.x l.y l.n

@@ -4,6 +4,8 @@ use mathlib.Core.Bool.{Bool, false, true}
 use mathlib.Core.List.{List}
 use mathlib.Core.Path.{◌≡◌, sym, ap, ◌∙◌}
 use Prim.Native.Nat.{ℕ}
+use lib.Dec.{eqb}
+use lib.Pointwise.{pointwise}
 use lib.ListN.{replicate}
 use Rattle.format.specs.Build.{build}
 use Rattle.format.specs.Refusals.{refusal_number}
@@ -21,12 +23,12 @@ module _ (over rec : List ℕ) (number : ℕ) (p : List ℕ) (x : Built)
   unfolding blank_page blank_undo
   refused r e = brings_none over rec number p (refusal_number r) (sym (ap built_answer e) ∙ ex)
 
-  same : (v : Numbers) → x ≡ Page v → (left : List ℕ)
-      → left ≡ (build over rec number (replicate 4096 0) (replicate 24704 0)).page
-      → (r : Bool) → (r ≡ true → left ≡ p) → (left ≡ p → r ≡ true) → r ≡ brings_again over rec number p
+  same : (v : Numbers) → x ≡ Page v → (page left : List ℕ)
+      → page ≡ (build over rec number (replicate 4096 0) (replicate 24704 0)).page
+      → left ≡ page → (r : Bool) → r ≡ pointwise eqb left p → r ≡ brings_again over rec number p
   unfolding blank_page blank_undo
-  same v e left el r f g =
-      brings_same over rec number p (numbers_meant v) left r (sym (ap built_answer e) ∙ ex) el (same_bytes_is left p r f g)
+  same v e page left ep el r er =
+      brings_same over rec number p (numbers_meant v) left r (sym (ap built_answer e) ∙ ex) (el ∙ ep) (er ∙ same_bytes_is left p)
 
 ruleset laws = (refused, same)
 

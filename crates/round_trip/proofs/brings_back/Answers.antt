@@ -114,3 +114,6 @@ returns-in-Refused c = search (rules, laws)
 
 pub returns-else-not-is_normal : goal.returns-else-not-is_normal
 returns-else-not-is_normal c = search (rules, laws)
+
+pub slice_bounds-brings_again-end-in-Page : goal.slice_bounds-brings_again-end-in-Page
+slice_bounds-brings_again-end-in-Page c = search (rules, laws)

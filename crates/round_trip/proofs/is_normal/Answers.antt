@@ -4,6 +4,8 @@ use mathlib.Core.Bool.{Bool, false, true}
 use mathlib.Core.List.{List}
 use mathlib.Core.Path.{◌≡◌, sym, ap, ◌∙◌}
 use Prim.Native.Nat.{ℕ}
+use lib.Dec.{eqb}
+use lib.Pointwise.{pointwise}
 use lib.ListN.{drop, replicate, length-replicate, take}
 use Rattle.format.specs.Answer.{Answer}
 use Rattle.format.specs.Bits.{unle}
@@ -45,8 +47,8 @@ module _ (base p : List ℕ) (x : Checked) (ex : checked_answer x ≡ check_page
       unfolding page_number
       number_is = en
 
-      same : (r : Bool) → (r ≡ true → own ≡ p) → (own ≡ p → r ≡ true) → r ≡ is_normal base p
-      same r f g =
+      same : (left : List ℕ) → left ≡ own → (r : Bool) → r ≡ pointwise eqb left p → r ≡ is_normal base p
+      same left el r er =
           let k : Answer.Value (record { m = c.m; q = c.q; bits = c.bits }) ≡ chosen_of (keys (rows h.n t)) =
           sym (ap choice_answer z) ∙ ey in
           normal_same base h read (replicate 4092 0) t (length-replicate {A = ℕ} 4092 0) et
@@ -54,7 +56,7 @@ module _ (base p : List ℕ) (x : Checked) (ex : checked_answer x ≡ check_page
           (own_normal base h read (replicate 4092 0) t (length-replicate {A = ℕ} 4092 0) et
           (record { m = c.m; q = c.q; bits = c.bits }) k number (replicate 4096 0) own w (length-replicate {A = ℕ} 4096 0)
           number_is wrote)
-          (same_bytes_is own p r f g)
+          (er ∙ ap (λ (l : List ℕ). pointwise eqb l p) el ∙ same_bytes_is own p)
 
 ruleset laws = (refused, never, same)
 
@@ -104,4 +106,8 @@ pub returns-in-Refused-choose : goal.returns-in-Refused-choose
 returns-in-Refused-choose c = search (rules, laws)
 
 pub returns-in-Taken : goal.returns-in-Taken
-returns-in-Taken c = search (rules, laws)
+returns-in-Taken c = record {
+  answer =
+      same _ _ _ c.load_page.ensures.answer _ c.in-Page.is _ c.load_page.ensures.written _ c.choose.ensures.answer _ c.in-Taken.is
+      _ (search rules) _ _ c.write_page.ensures _ c.as_slice.ensures _ c.eq.ensures;
+}

@@ -84,7 +84,12 @@ pub shape_of-undo-then-base-eq0 : goal.shape_of-undo-then-base-eq0
 shape_of-undo-then-base-eq0 c = search (rules, laws)
 
 pub returns-then-base-eq0 : goal.returns-then-base-eq0
-returns-then-base-eq0 c = (search (rules, laws), (search (rules, laws), (search (rules, laws), λ l. absurd (none c.before.before.before.before.before.before.before.before.before.before.before.before.before.before.before.args.base.now l (search rules)))))
+returns-then-base-eq0 c = record {
+  answer = search (rules, laws);
+  page = search (rules, laws);
+  undo = search (rules, laws);
+  agreed = λ l. absurd (none c.args.base.now l (search rules));
+}
 
 pub slice_bounds-brings_back-count : goal.slice_bounds-brings_back-count
 slice_bounds-brings_back-count c = search (rules, laws)
@@ -106,11 +111,11 @@ shape_of-undo-then-not-brings_back c = search (rules, laws)
 
 pub returns-then-not-brings_back : goal.returns-then-not-brings_back
 returns-then-not-brings_back c =
-    absurd (never _ _ _ _ _ _ c.build.ensures.0«labels?» _ c.v-1.given.1 _ _
-    c.build.ensures.1.0«labels?»
-    c.build.ensures.1.1«labels?»
-    (at_below 256 c.before.before.before.before.before.before.before.before.before.before.before.before.before.before.before.before.before.before.before.before.args.base.now (λ k. omega (arith, c.shared_slice_known-1.given k)))
-    (at_below 256 c.before.before.before.before.before.before.before.before.before.before.before.before.before.before.before.before.before.before.before.before.args.rec.now (λ k. omega (arith, c.shared_slice_known-2-1.given k)))
+    absurd (never _ _ _ _ _ _ c.build.ensures.answer _ c.in-Page.is _ _
+    c.build.ensures.page
+    c.build.ensures.undo
+    (at_below 256 c.args.base.now (λ k. omega (arith, c.type_inv.base k)))
+    (at_below 256 c.args.rec.now (λ k. omega (arith, c.type_inv.rec k)))
     (search rules)
     (search rules)
     _
@@ -124,7 +129,12 @@ pub shape_of-undo-in-Refused : goal.shape_of-undo-in-Refused
 shape_of-undo-in-Refused c = search (rules, laws)
 
 pub returns-in-Refused : goal.returns-in-Refused
-returns-in-Refused c = (search (rules, laws), (search (rules, laws), (search (rules, laws), tt)))
+returns-in-Refused c = record {
+  answer = search (rules, laws);
+  page = search (rules, laws);
+  undo = search (rules, laws);
+  agreed = tt;
+}
 
 pub shape_of-page-else-not-brings_back : goal.shape_of-page-else-not-brings_back
 shape_of-page-else-not-brings_back c = search (rules, laws)
@@ -133,18 +143,11 @@ pub shape_of-undo-else-not-brings_back : goal.shape_of-undo-else-not-brings_back
 shape_of-undo-else-not-brings_back c = search (rules, laws)
 
 pub returns-else-not-brings_back : goal.returns-else-not-brings_back
-returns-else-not-brings_back c = (
-  search (rules, laws),
-  (
-    search (rules, laws),
-    (
-      search (rules, laws),
-      tried _ _ _ _ _ _ c.build.ensures.0«labels?» _ c.v-1.given.1 _ _
-          c.build.ensures.1.0«labels?»
-          c.build.ensures.1.1«labels?»
-          _
-          c.brings_back.ensures.answer
-          (search rules),
-    ),
-  ),
-)
+returns-else-not-brings_back c = record {
+  answer = search (rules, laws);
+  page = search (rules, laws);
+  undo = search (rules, laws);
+  agreed =
+      tried _ _ _ _ _ _ c.build.ensures.answer _ c.in-Page.is _ _ c.build.ensures.page c.build.ensures.undo _
+      c.brings_back.ensures.answer (search rules);
+}

@@ -7,7 +7,6 @@ use native.Mathlib.Omega.{arith}
 use lib.ListN.{length, drop}
 use Rattle.format.specs.Bits.{bits, bits_of, fill}
 use Rattle.facts.proofs.BitsLaws.{length-bits_of, fill-add, fill_exact}
-use Rattle.keys.specs.declared.Key.{Key}
 use Rattle.keys.specs.Keys.{key_bits}
 use Rattle.std.proofs.Common.{rules}
 use Rattle.keys.proofs.Key.from_bytes.Goals as goal
