@@ -1,8 +1,7 @@
 -- `edits::record::all_inside` meets its contract: after i edits inside the base one is outside exactly where one of
 -- the rest is (`Placing`).
 -- Assumes nothing.
-use Prim.Native.Nat.{◌+◌, ◌-◌, ◌*◌, ◌≤◌}
-use Rattle.edits.proofs.ReadingLaws.{Placing, placing_start, placing_bad, placing_next, placing_end}
+use Rattle.edits.proofs.ReadingLaws.{placing_start, placing_bad, placing_next, placing_end}
 use Rattle.std.proofs.Common.{rules}
 use Rattle.edits.proofs.record.all_inside.Goals as goal
 

@@ -2,8 +2,7 @@
 -- the rest is (`Placing`).
 -- Assumes nothing.
 use Prim.Native.Nat.{◌+◌, ◌-◌, ◌*◌, ◌≤◌}
-use Rattle.edits.proofs.ReadingLaws.{Placing, placing_start, placing_bad, placing_next, placing_end}
-use Rattle.std.proofs.Common.{rules}
+use Rattle.edits.proofs.ReadingLaws.{Placing}
 use Rattle.edits.proofs.record.all_inside.Given as goal
 
 abbrev pub invariant-loop-i : goal.invariant-loop-i

@@ -1,17 +1,7 @@
 -- `edits::record::formed` meets its contract: after i edits the record is well-formed exactly where the rest is
 -- (`Forming`), and one that is over 37,085 bytes long is not.
 -- Assumes nothing.
-use Prim.Native.Nat.{◌-◌, ◌*◌, ◌≤◌}
-use lib.ListN.{length}
-use Rattle.edits.proofs.ReadingLaws.{
-  Forming,
-  record_short,
-  record_long,
-  forming_start,
-  forming_bad,
-  forming_next,
-  forming_end,
-}
+use Rattle.edits.proofs.ReadingLaws.{record_short, record_long, forming_start, forming_bad, forming_next, forming_end}
 use Rattle.std.proofs.Common.{rules}
 use Rattle.edits.proofs.record.formed.Goals as goal
 

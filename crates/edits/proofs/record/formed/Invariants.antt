@@ -3,16 +3,7 @@
 -- Assumes nothing.
 use Prim.Native.Nat.{◌-◌, ◌*◌, ◌≤◌}
 use lib.ListN.{length}
-use Rattle.edits.proofs.ReadingLaws.{
-  Forming,
-  record_short,
-  record_long,
-  forming_start,
-  forming_bad,
-  forming_next,
-  forming_end,
-}
-use Rattle.std.proofs.Common.{rules}
+use Rattle.edits.proofs.ReadingLaws.{Forming}
 use Rattle.edits.proofs.record.formed.Given as goal
 
 abbrev pub invariant-loop-i : goal.invariant-loop-i

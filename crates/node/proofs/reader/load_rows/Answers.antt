@@ -5,11 +5,11 @@
 use mathlib.Core.Bool.{Bool, false, cond, not, ◌||◌}
 use mathlib.Core.List.{List}
 use mathlib.Core.Path.{◌≡◌, ap, ap₂, ◌∙◌}
-use Prim.Native.Nat.{ℕ, ◌+◌, ◌-◌, ◌≤◌, ◌<◌}
+use Prim.Native.Nat.{ℕ, ◌+◌, ◌≤◌}
 use native.Mathlib.Omega.{arith}
 use lib.Dec.{eqb}
 use Rattle.format.specs.Key.{below}
-use Rattle.format.specs.Page.{each, entries, entry_of, key_of, pointer_of, start_of}
+use Rattle.format.specs.Page.{each, entries, entry_of, key_of, pointer_of}
 use Rattle.keys.specs.declared.Key.{Key}
 use Rattle.keys.specs.Keys.{key_bits}
 use Rattle.rows.specs.Rows.{with_row, with_rows}
