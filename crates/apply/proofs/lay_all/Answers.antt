@@ -1,10 +1,7 @@
 -- `apply::lay_all` meets its contract: after i edits the pass over the items of the rest leaves what the pass over all
 -- does (`Applying`), and one that fell leaves it as it is.
 -- Assumes nothing.
-use mathlib.Core.Path.{◌≡◌}
-use Prim.Native.Nat.{◌+◌, ◌-◌, ◌*◌, ◌≤◌, ◌<◌}
-use lib.ListN.{length}
-use Rattle.apply.proofs.PassLaws.{Applying, applying_start, applying_next, applying_stop, applying_end}
+use Rattle.apply.proofs.PassLaws.{applying_start, applying_next, applying_stop, applying_end}
 use Rattle.std.proofs.Common.{rules}
 use Rattle.apply.proofs.lay_all.Goals as goal
 

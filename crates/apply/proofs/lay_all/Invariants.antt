@@ -4,8 +4,7 @@
 use mathlib.Core.Path.{◌≡◌}
 use Prim.Native.Nat.{◌+◌, ◌-◌, ◌*◌, ◌≤◌, ◌<◌}
 use lib.ListN.{length}
-use Rattle.apply.proofs.PassLaws.{Applying, applying_start, applying_next, applying_stop, applying_end}
-use Rattle.std.proofs.Common.{rules}
+use Rattle.apply.proofs.PassLaws.{Applying}
 use Rattle.apply.proofs.lay_all.Given as goal
 
 abbrev pub invariant-loop-i : goal.invariant-loop-i

@@ -1,10 +1,7 @@
 -- `apply::lay_run` meets its contract: after the rows up to i the pass over the rest leaves what the pass over all
 -- does (`Running`), and one that fell leaves it as it is.
 -- Assumes nothing.
-use mathlib.Core.Path.{◌≡◌}
-use lib.ListN.{length}
-use Prim.Native.Nat.{◌-◌, ◌^◌, ◌≤◌, ◌<◌}
-use Rattle.apply.proofs.PassLaws.{Running, run_start, run_more, run_stop, run_stop_most, run_end, run-end_most}
+use Rattle.apply.proofs.PassLaws.{run_start, run_more, run_stop, run_stop_most, run_end, run-end_most}
 use Rattle.std.proofs.Common.{rules}
 use Rattle.apply.proofs.lay_run.Goals as goal
 

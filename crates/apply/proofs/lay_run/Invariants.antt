@@ -4,8 +4,7 @@
 use mathlib.Core.Path.{◌≡◌}
 use lib.ListN.{length}
 use Prim.Native.Nat.{◌-◌, ◌^◌, ◌≤◌, ◌<◌}
-use Rattle.apply.proofs.PassLaws.{Running, run_start, run_more, run_stop, run_stop_most, run_end, run-end_most}
-use Rattle.std.proofs.Common.{rules}
+use Rattle.apply.proofs.PassLaws.{Running}
 use Rattle.apply.proofs.lay_run.Given as goal
 
 abbrev pub invariant-loop-i : goal.invariant-loop-i

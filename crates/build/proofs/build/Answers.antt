@@ -162,11 +162,11 @@ returns-in-Refused-plan c = record {
       c.load_base.ensures.known _ c.in-Page.is
       c.if-page-ne-PAGE_SIZE.false _ _ _ c.plan.ensures.known _ c.in-Refused-plan.is;
   page = plan-page _ _ _ _ _ _ _
-        c.load_base.ensures.known _ c.in-Page.is
-        c.if-page-ne-PAGE_SIZE.false _ _ _ c.plan.ensures.known _ c.in-Refused-plan.is;
+      c.load_base.ensures.known _ c.in-Page.is
+      c.if-page-ne-PAGE_SIZE.false _ _ _ c.plan.ensures.known _ c.in-Refused-plan.is;
   undo = plan_undo _ _ _ _ _ _ _
-        c.load_base.ensures.known _ c.in-Page.is
-        c.if-page-ne-PAGE_SIZE.false _ _ _ c.plan.ensures.known _ c.in-Refused-plan.is;
+      c.load_base.ensures.known _ c.in-Page.is
+      c.if-page-ne-PAGE_SIZE.false _ _ _ c.plan.ensures.known _ c.in-Refused-plan.is;
 }
 
 pub shape_of-page : goal.shape_of-page
@@ -181,10 +181,9 @@ returns-in-Page-plan c = record {
       c.load_base.ensures.known _ c.in-Page.is
       c.if-page-ne-PAGE_SIZE.false _ _ _ c.plan.ensures.known _ c.in-Page-plan.is _ _ c.finish.ensures.page c.finish.ensures.undo;
   page = done_page _ _ _ _ _ _ _
-        c.load_base.ensures.known _ c.in-Page.is
-        c.if-page-ne-PAGE_SIZE.false _ _ _ c.plan.ensures.known _ c.in-Page-plan.is _ _ c.finish.ensures.page c.finish.ensures.undo;
+      c.load_base.ensures.known _ c.in-Page.is
+      c.if-page-ne-PAGE_SIZE.false _ _ _ c.plan.ensures.known _ c.in-Page-plan.is _ _ c.finish.ensures.page c.finish.ensures.undo;
   undo = done_undo _ _ _ _ _ _ _
-        c.load_base.ensures.known _ c.in-Page.is
-        c.if-page-ne-PAGE_SIZE.false _ _ _ c.plan.ensures.known _ c.in-Page-plan.is _ _ c.finish.ensures.page c.finish.ensures.undo;
+      c.load_base.ensures.known _ c.in-Page.is
+      c.if-page-ne-PAGE_SIZE.false _ _ _ c.plan.ensures.known _ c.in-Page-plan.is _ _ c.finish.ensures.page c.finish.ensures.undo;
 }
-

@@ -17,10 +17,10 @@ shape_of-t c = search (rules, laws)
 
 pub returns : goal.returns
 returns c = record {
-    known =
- base_known c.before.before.before.before.before.before.before.args.base.now c.before.before.before.before.before.before.before.args.t.now _ c.load_page.result (search rules)
-    (at_below 256 _ (λ k. omega (arith, c.shared_slice_known-1.given k)))
-    (search rules)
-    (search rules)
-    (search rules);
+  known =
+      base_known c.before.before.before.before.before.before.before.args.base.now c.before.before.before.before.before.before.before.args.t.now _ c.load_page.result (search rules)
+      (at_below 256 _ (λ k. omega (arith, c.shared_slice_known-1.given k)))
+      (search rules)
+      (search rules)
+      (search rules);
 }

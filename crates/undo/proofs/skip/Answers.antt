@@ -3,13 +3,12 @@
 use mathlib.Core.Bool.{Bool, true, false, not, cond}
 use mathlib.Core.List.{List}
 use mathlib.Core.Path.{◌≡◌, refl, sym, ap, ◌∙◌}
-use Prim.Native.Nat.{ℕ, suc, ◌+◌, ◌-◌, ◌≤◌, ◌<◌}
+use Prim.Native.Nat.{ℕ, suc, ◌+◌, ◌≤◌, ◌<◌}
 use native.Mathlib.Omega.{arith}
 use Rattle.std.proofs.Common.{rules}
 use borrow.Author.Tests.{not-true, not-false}
 use lib.ListN.{length, drop, drop_of_length-le}
 use Rattle.format.specs.Key.{below}
-use Rattle.keys.specs.Keys.{key_bits}
 use Rattle.rows.specs.Rows.{row_key, row_entry, rows}
 use Rattle.rows.proofs.RowsLaws.{length-rows}
 use Rattle.undo.proofs.skip.Goals as goal

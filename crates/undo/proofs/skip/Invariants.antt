@@ -1,20 +1,13 @@
 -- `undo::skip` meets its contract: because all rows from `at` up to j have keys below the key.
 -- Assumes nothing.
-use mathlib.Core.Bool.{Bool, true, false, not, cond}
 use mathlib.Core.List.{List}
-use mathlib.Core.Path.{◌≡◌, refl, sym, ap, ◌∙◌}
-use Prim.Native.Nat.{ℕ, suc, ◌+◌, ◌-◌, ◌≤◌, ◌<◌}
-use native.Mathlib.Omega.{arith}
-use Rattle.std.proofs.Common.{rules}
-use borrow.Author.Tests.{not-true, not-false}
-use lib.ListN.{length, drop, drop_of_length-le}
-use Rattle.format.specs.Key.{below}
+use mathlib.Core.Path.{◌≡◌}
+use Prim.Native.Nat.{ℕ, ◌-◌}
+use lib.ListN.{drop}
 use Rattle.keys.specs.Keys.{key_bits}
-use Rattle.rows.specs.Rows.{row_key, row_entry, rows}
-use Rattle.rows.proofs.RowsLaws.{length-rows}
+use Rattle.rows.specs.Rows.{rows}
 use Rattle.undo.proofs.skip.Given as goal
 use Rattle.undo.specs.Walk.{skipped}
-use Rattle.undo.proofs.WalkingLaws.{drop-rows}
 
 -- all rows from `at` up to j are passed over
 pub record Skipping (t : List ℕ) (k at : ℕ) (key : List ℕ) (j : ℕ) : Type 0 where

@@ -1,22 +1,14 @@
 -- `undo::write_undo` meets its contract: because i entries of the base are behind the walk after i turns.
 -- Assumes nothing.
 use mathlib.Core.List.{List}
-use mathlib.Core.Path.{◌≡◌, sym, ap, ◌∙◌}
-use Prim.Native.Nat.{ℕ, suc, ◌+◌, ◌-◌, ◌≤◌, ◌<◌}
-use native.Mathlib.Omega.{arith}
-use Rattle.std.proofs.Common.{rules}
-use lib.ListN.{length, drop, drop_of_length-le}
-use Rattle.format.specs.Bits.{bytes_for}
-use Rattle.format.specs.Page.{Entry}
-use Rattle.rows.specs.Rows.{row_entry, rows}
-use Rattle.rows.proofs.RowsLaws.{length-rows}
-use Rattle.branch_ops.specs.Writer.{Writing, finished_bytes, pushed_all, record_in, starting_writer}
-use Rattle.branch_ops.specs.declared.writer.RecordWriter.{RecordWriter}
+use mathlib.Core.Path.{◌≡◌}
+use Prim.Native.Nat.{ℕ, ◌-◌}
+use lib.ListN.{length, drop}
+use Rattle.rows.specs.Rows.{rows}
+use Rattle.branch_ops.specs.Writer.{starting_writer}
 use Rattle.undo.proofs.write_undo.Given as goal
 use Rattle.undo.specs.declared.Walk.{Walk}
-use Rattle.undo.specs.Walk.{Walking, closed, stepped, undo_size, walk, walked, walking, writing_of}
-use Rattle.undo.proofs.WalkingLaws.{drop-rows}
-use Rattle.undo.proofs.WrittenLaws.{pending_none, walked-closed}
+use Rattle.undo.specs.Walk.{Walking, walked, walking, writing_of}
 
 -- the walk before its first entry
 abbrev pub fresh : List ℕ → Walking

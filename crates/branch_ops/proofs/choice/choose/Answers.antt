@@ -1,18 +1,7 @@
 -- `branch_ops::choice::choose` meets its contract: after i keys the pass over the rest finds what the pass over all
 -- does (`Choosing`).
 -- Assumes nothing.
-use Prim.Native.Nat.{◌-◌, ◌*◌, ◌≤◌}
-use Rattle.format.specs.Normal.{keys}
-use Rattle.rows.specs.Rows.{rows}
-use Rattle.branch_ops.proofs.ChoiceLaws.{
-  Choosing,
-  choosing_start,
-  choosing_next,
-  end_taken,
-  end_refused,
-  too_many,
-  no_rows,
-}
+use Rattle.branch_ops.proofs.ChoiceLaws.{choosing_start, choosing_next, end_taken, end_refused, too_many, no_rows}
 use Rattle.std.proofs.Common.{rules}
 use Rattle.branch_ops.proofs.choice.choose.Goals as goal
 

@@ -4,16 +4,7 @@
 use Prim.Native.Nat.{◌-◌, ◌*◌, ◌≤◌}
 use Rattle.format.specs.Normal.{keys}
 use Rattle.rows.specs.Rows.{rows}
-use Rattle.branch_ops.proofs.ChoiceLaws.{
-  Choosing,
-  choosing_start,
-  choosing_next,
-  end_taken,
-  end_refused,
-  too_many,
-  no_rows,
-}
-use Rattle.std.proofs.Common.{rules}
+use Rattle.branch_ops.proofs.ChoiceLaws.{Choosing}
 use Rattle.branch_ops.proofs.choice.choose.Given as goal
 
 abbrev pub invariant-loop-i : goal.invariant-loop-i

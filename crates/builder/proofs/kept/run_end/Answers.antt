@@ -3,8 +3,6 @@
 -- Assumes nothing.
 use Rattle.std.proofs.Common.{rules}
 use Rattle.builder.proofs.kept.run_end.Goals as goal
-use Prim.Native.Nat.{◌-◌, ◌<◌}
-use Rattle.builder.specs.Over.{Run}
 use Rattle.builder.proofs.OverLaws.{run-one, run_more}
 
 ruleset laws = (run-one, run_more)

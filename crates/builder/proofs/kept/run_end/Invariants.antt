@@ -1,11 +1,9 @@
 -- `builder::kept::run_end` meets its contract: because each turn finds one row more that the base has behind the one
 -- before.
 -- Assumes nothing.
-use Rattle.std.proofs.Common.{rules}
 use Rattle.builder.proofs.kept.run_end.Given as goal
 use Prim.Native.Nat.{◌-◌, ◌<◌}
 use Rattle.builder.specs.Over.{Run}
-use Rattle.builder.proofs.OverLaws.{run-one, run_more}
 
 abbrev pub invariant-loop-e : goal.invariant-loop-e
 invariant-loop-e l = Run l.base l.bn l.bm l.t l.n l.m l.q l.i l.j l.e × (l.i < l.e)

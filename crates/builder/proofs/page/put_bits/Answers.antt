@@ -3,11 +3,6 @@
 -- Assumes nothing.
 use Rattle.std.proofs.Common.{rules}
 use Rattle.builder.proofs.page.put_bits.Goals as goal
-use mathlib.Core.Path.{◌≡◌}
-use Prim.Native.Nat.{◌-◌}
-use lib.ListN.{length}
-use Rattle.builder.specs.Writes.{Pushed}
-use Rattle.builder.specs.Over.{over_bits}
 use Rattle.builder.proofs.PushLaws.{pushed_start, pushed_fits, pushed_sum, pushed_size, pushed_end}
 
 ruleset laws = (pushed_start, pushed_fits, pushed_sum, pushed_size, pushed_end)
@@ -23,10 +18,10 @@ new-b-requires c = search (rules, laws)
 
 pub loop-b-init : goal.loop-b-init
 loop-b-init c = (
-      search rules,
-      pushed_start _ _ _ _ _ _ _ _ _ _ (search rules) (search rules) (search rules) (search rules) (search rules)
-          c.key_of.ensures.answer c.put_key.ensures.written (search rules) (search rules) (search rules),
-    )
+  search rules,
+  pushed_start _ _ _ _ _ _ _ _ _ _ (search rules) (search rules) (search rules) (search rules) (search rules)
+      c.key_of.ensures.answer c.put_key.ensures.written (search rules) (search rules) (search rules),
+)
 
 pub push_next-b-requires : goal.push_next-b-requires
 push_next-b-requires c = search (rules, laws)
@@ -48,7 +43,7 @@ shape_of-part c = search (rules, laws)
 
 pub returns : goal.returns
 returns c = record {
-    written =
- let l = c.loop-b.invariant.1 in
-    pushed_end _ _ _ _ _ _ _ _ _ l _ (search rules) c.clear_from.ensures.written _ (search rules);
+  written =
+      let l = c.loop-b.invariant.1 in
+      pushed_end _ _ _ _ _ _ _ _ _ l _ (search rules) c.clear_from.ensures.written _ (search rules);
 }

@@ -1,14 +1,12 @@
 -- `builder::page::put_bits` meets its contract: because the prefix, the bits of each row and zeros go one behind the
 -- other.
 -- Assumes nothing.
-use Rattle.std.proofs.Common.{rules}
 use Rattle.builder.proofs.page.put_bits.Given as goal
 use mathlib.Core.Path.{◌≡◌}
 use Prim.Native.Nat.{◌-◌}
 use lib.ListN.{length}
 use Rattle.builder.specs.Writes.{Pushed}
 use Rattle.builder.specs.Over.{over_bits}
-use Rattle.builder.proofs.PushLaws.{pushed_start, pushed_fits, pushed_sum, pushed_size, pushed_end}
 
 abbrev pub invariant-loop-b : goal.invariant-loop-b
 invariant-loop-b l =

@@ -1,6 +1,5 @@
 -- `builder::page::put_page` meets its contract: because the header and the parts that are lent on make up the page.
 -- Assumes nothing.
-use Rattle.std.proofs.Common.{rules}
 use native.Mathlib.Omega.{arith}
 use Rattle.builder.proofs.page.put_page.Goals as goal
 use Rattle.builder.proofs.JoinLaws.{part_small, part_room, page_is}
@@ -22,9 +21,9 @@ put_bits-requires c =
 
 pub returns : goal.returns
 returns c = record {
-    written =
-    let a = c.args in
-    page_is c.put_header.new.out c.put_offsets.new.part a.t.now a.n a.m a.q c.put_offsets.ensures.written
-    c.requires.2 (omega arith) _ _ c.put_bits.new.part c.put_pointers.new.part a.number c.requires.0
-    c.put_header.ensures.written c.put_bits.ensures.written c.put_pointers.ensures.written;
+  written =
+      let a = c.args in
+      page_is c.put_header.new.out c.put_offsets.new.part a.t.now a.n a.m a.q c.put_offsets.ensures.written
+      c.requires.2 (omega arith) _ _ c.put_bits.new.part c.put_pointers.new.part a.number c.requires.0
+      c.put_header.ensures.written c.put_bits.ensures.written c.put_pointers.ensures.written;
 }

@@ -2,9 +2,7 @@
 -- Assumes nothing.
 use Rattle.std.proofs.Common.{rules}
 use Rattle.parts.proofs.bits.clear_bytes.Goals as goal
-use Rattle.parts.proofs.BitLaws.{Cleared, clear_start, clear_more, clear_end}
-use Prim.Native.Nat.{◌-◌}
-use lib.ListN.{length}
+use Rattle.parts.proofs.BitLaws.{clear_start, clear_more, clear_end}
 
 ruleset laws = (clear_start, clear_more, clear_end)
 

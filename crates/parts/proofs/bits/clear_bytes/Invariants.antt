@@ -1,8 +1,7 @@
 -- `parts::bits::clear_bytes` meets its contract: because each turn clears one byte more.
 -- Assumes nothing.
-use Rattle.std.proofs.Common.{rules}
 use Rattle.parts.proofs.bits.clear_bytes.Given as goal
-use Rattle.parts.proofs.BitLaws.{Cleared, clear_start, clear_more, clear_end}
+use Rattle.parts.proofs.BitLaws.{Cleared}
 use Prim.Native.Nat.{◌-◌}
 use lib.ListN.{length}
 

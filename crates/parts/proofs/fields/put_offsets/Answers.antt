@@ -3,12 +3,7 @@
 -- Assumes nothing.
 use Rattle.std.proofs.Common.{rules}
 use Rattle.parts.proofs.fields.put_offsets.Goals as goal
-use mathlib.Core.Path.{◌≡◌}
-use Prim.Native.Nat.{◌-◌, ◌*◌}
-use lib.ListN.{length}
-use Rattle.format.specs.Normal.{running}
-use Rattle.parts.specs.Parts.{row_lengths}
-use Rattle.parts.proofs.PartLaws.{Summed, Written, summed_start, summed_more, offsets_start, offsets_more}
+use Rattle.parts.proofs.PartLaws.{summed_start, summed_more, offsets_start, offsets_more}
 use Rattle.parts.proofs.PartLaws.{offsets_room, offsets_end, offsets_many, offsets_other}
 
 ruleset laws =

@@ -1,15 +1,13 @@
 -- `parts::fields::put_offsets` meets its contract: because it goes by the tests of `with_offsets`, and each turn
 -- stores the sum of the stored lengths up to its row.
 -- Assumes nothing.
-use Rattle.std.proofs.Common.{rules}
 use Rattle.parts.proofs.fields.put_offsets.Given as goal
 use mathlib.Core.Path.{◌≡◌}
 use Prim.Native.Nat.{◌-◌, ◌*◌}
 use lib.ListN.{length}
 use Rattle.format.specs.Normal.{running}
 use Rattle.parts.specs.Parts.{row_lengths}
-use Rattle.parts.proofs.PartLaws.{Summed, Written, summed_start, summed_more, offsets_start, offsets_more}
-use Rattle.parts.proofs.PartLaws.{offsets_room, offsets_end, offsets_many, offsets_other}
+use Rattle.parts.proofs.PartLaws.{Summed, Written}
 
 abbrev pub invariant-loop-i : goal.invariant-loop-i
 invariant-loop-i l =

@@ -3,12 +3,7 @@
 -- Assumes nothing.
 use Rattle.std.proofs.Common.{rules}
 use Rattle.parts.proofs.fields.put_pointers.Goals as goal
-use mathlib.Core.Path.{◌≡◌}
-use Prim.Native.Nat.{◌-◌, ◌*◌, ◌≤◌}
-use lib.ListN.{length}
-use Rattle.format.specs.Normal.{pointers}
-use Rattle.rows.specs.Rows.{rows}
-use Rattle.parts.proofs.PartLaws.{Written, pointers_start_lem, pointers_more, pointers_room, pointers-end}
+use Rattle.parts.proofs.PartLaws.{pointers_start_lem, pointers_more, pointers_room, pointers-end}
 use Rattle.parts.proofs.PartLaws.{pointers_many, pointers_other}
 
 ruleset laws = (pointers_start_lem, pointers_more, pointers_room, pointers-end, pointers_many, pointers_other)

@@ -1,15 +1,13 @@
 -- `parts::fields::put_pointers` meets its contract: because it goes by the tests of `with_pointers`, and each turn
 -- stores the pointer of one row more.
 -- Assumes nothing.
-use Rattle.std.proofs.Common.{rules}
 use Rattle.parts.proofs.fields.put_pointers.Given as goal
 use mathlib.Core.Path.{◌≡◌}
 use Prim.Native.Nat.{◌-◌, ◌*◌, ◌≤◌}
 use lib.ListN.{length}
 use Rattle.format.specs.Normal.{pointers}
 use Rattle.rows.specs.Rows.{rows}
-use Rattle.parts.proofs.PartLaws.{Written, pointers_start_lem, pointers_more, pointers_room, pointers-end}
-use Rattle.parts.proofs.PartLaws.{pointers_many, pointers_other}
+use Rattle.parts.proofs.PartLaws.{Written}
 
 abbrev pub invariant-loop-i : goal.invariant-loop-i
 invariant-loop-i l =

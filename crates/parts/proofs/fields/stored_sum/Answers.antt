@@ -3,8 +3,7 @@
 -- Assumes nothing.
 use Rattle.std.proofs.Common.{rules}
 use Rattle.parts.proofs.fields.stored_sum.Goals as goal
-use Prim.Native.Nat.{◌-◌}
-use Rattle.parts.proofs.PartLaws.{Summed, summed_start, summed_more, summed_end, summed_small, summed_many}
+use Rattle.parts.proofs.PartLaws.{summed_start, summed_more, summed_end, summed_small, summed_many}
 
 ruleset laws = (summed_start, summed_more, summed_end, summed_small, summed_many)
 
