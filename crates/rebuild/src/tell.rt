@@ -15,13 +15,13 @@ impl Tell for HostRuntime {
 }
 
 // Writes a line to standard error: what failed, as the caller names it, a colon and the system's
-// words, without the number that std puts behind them.
+// words, without the number that std puts behind them (with it where no memory is left).
 pub(crate) fn fail(rt: &(impl Tell + Alloc), what: &[u8], why: io::Error) {
     rt.tell(what);
     rt.tell(b": ");
-    match format!(in rt.alloc(); "{why}") {
-        Ok(text) => rt.tell(words(text.as_str()).as_bytes()),
-        Err(_) => rt.tell(b"out of memory"),
+    let _ = match format!(in rt.alloc(); "{why}") {
+        Ok(text) => rt.eprint(words(text.as_str())),
+        Err(_) => rt.eprint(why),
     };
     rt.tell(b"\n");
 }
