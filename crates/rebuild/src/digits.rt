@@ -2,7 +2,8 @@
 ghost use Rattle.std.specs.Prelude.{◌<◌};
 
 use crate::files;
-use libc::STDERR_FILENO;
+use crate::tell::Tell;
+use std::rt::Env;
 
 // Whether an argument is a page number, and which.
 #[derive(Drop)]
@@ -67,22 +68,22 @@ fn total(s: &[u8]) -> Sum
     all
 }
 
-fn said(i: usize, why: &[u8]) -> Number {
-    files::name(i);
-    io::write_all(STDERR_FILENO, why);
+fn said(rt: &(impl Env + Tell), i: usize, why: &[u8]) -> Number {
+    files::name(rt, i);
+    rt.tell(why);
     Number {
         is: false,
         value: 0,
     }
 }
 
-fn read(i: usize, s: &[u8]) -> Number {
+fn read(rt: &(impl Env + Tell), i: usize, s: &[u8]) -> Number {
     let all = total(s);
     if !all.digits {
-        return said(i, b": not a page number, which has decimal digits\n");
+        return said(rt, i, b": not a page number, which has decimal digits\n");
     }
     if !all.fits {
-        return said(i, b": not a page number, which is below 4294967296\n");
+        return said(rt, i, b": not a page number, which is below 4294967296\n");
     }
     Number {
         is: true,
@@ -91,15 +92,16 @@ fn read(i: usize, s: &[u8]) -> Number {
 }
 
 // The page number that argument i is; what is wrong with it goes to standard error.
-pub(crate) fn argument(i: usize) -> Number {
-    let mut text = io::buffer();
-    let n = os::arg(i, &mut text);
-    if os::errno() != 0 {
-        os::fail(b"argument");
-        return Number {
-            is: false,
-            value: 0,
-        };
+pub(crate) fn argument(rt: &(impl Env + Tell), i: usize) -> Number {
+    let mut text = [0u8; 4096];
+    match rt.arg(i, &mut text) {
+        Ok(n) => read(rt, i, &text[..n]),
+        Err(why) => {
+            files::unread(rt, why);
+            Number {
+                is: false,
+                value: 0,
+            }
+        }
     }
-    read(i, &text[..n])
 }
