@@ -120,7 +120,7 @@ pub(crate) fn holds(s: &[u8], k: usize, bytes: &[u8]) -> bool {
     let f = field(s, k);
     let start = f.start;
     let end = f.end;
-    check::same(&s[start..end], bytes)
+    &s[start..end] == bytes
 }
 
 // Whether field k has the bytes of a key.
