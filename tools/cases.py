@@ -20,17 +20,17 @@ HEAD = """\
 -- Cases of an independent model of document 01, computed from the definitions. Written by tools/cases.py: change that, not this.
 -- Each says what an operation answers, and what lent memory holds afterwards. Line numbers are those of the vectors' file.
 -- Assumes nothing.
-use mathlib.Core.List.{[], _++_}
-use mathlib.Core.Path.{_≡_, refl}
+use mathlib.Core.List.{[], ◌++◌}
+use mathlib.Core.Path.{◌≡◌, refl}
 use lib.ListN.{replicate}
-use Rattle·format.specs.Bits.{bitsOf}
-use Rattle·format.specs.Key.{separatorLength, sharedBits}
-use Rattle·format.specs.Answer.{Answer, afterwards}
-use Rattle·format.specs.Page.{checkPage, readEntry}
-use Rattle·format.specs.Sizes.{bodySize, wholeFromStored, storedFromWhole}
-use Rattle·format.specs.Ranges.{separate, bitCopy, rebuildKey}
-use Rattle·format.specs.Build.{build}
-use Rattle·format.proofs.Samples.{hex}
+use Rattle.format.specs.Bits.{bits_of}
+use Rattle.format.specs.Key.{separator_length, shared_bits}
+use Rattle.format.specs.Answer.{Answer, afterwards}
+use Rattle.format.specs.Page.{check_page, read_entry}
+use Rattle.format.specs.Sizes.{body_size, whole_from_stored, stored_from_whole}
+use Rattle.format.specs.Ranges.{separate, bit_copy, rebuild_key}
+use Rattle.format.specs.Build.{build}
+use Rattle.format.proofs.Samples.{hex}
 """
 
 
@@ -67,7 +67,7 @@ def listed(field):
 
 
 def key(field):
-    return "(bitsOf %s)" % listed(field)
+    return "(bits_of %s)" % listed(field)
 
 
 def answer(case, value):
@@ -86,32 +86,32 @@ def facts(case):
     """The facts of a case: (what computes, what it is equal to, through which definitions)."""
     op, a = case["op"], case["args"]
     if op == "sep_len":
-        return [("separatorLength %s" % key(a[0]), case["values"][0], "separatorLength bitsOf hex")]
+        return [("separator_length %s" % key(a[0]), case["values"][0], "separator_length bits_of hex")]
     if op == "shared":
-        return [("sharedBits %s %s" % (key(a[0]), key(a[1])), case["values"][0], "sharedBits bitsOf hex")]
+        return [("shared_bits %s %s" % (key(a[0]), key(a[1])), case["values"][0], "shared_bits bits_of hex")]
     if op == "separate":
-        return [("separate %s %s" % (key(a[0]), key(a[1])), answer(case, key_value), "separate bitsOf hex")]
+        return [("separate %s %s" % (key(a[0]), key(a[1])), answer(case, key_value), "separate bits_of hex")]
     if op == "copy":
-        call = "bitCopy %s %s %s %s %s" % (listed(a[0]), a[1], listed(a[2]), a[3], a[4])
+        call = "bit_copy %s %s %s %s %s" % (listed(a[0]), a[1], listed(a[2]), a[3], a[4])
         left = listed(case["memory"][0])
-        return [(call, answer(case, lambda values: left), "bitCopy hex"),
-                ("afterwards (%s) (λ d. d) %s" % (call, listed(a[0])), left, "afterwards bitCopy hex")]
+        return [(call, answer(case, lambda values: left), "bit_copy hex"),
+                ("afterwards (%s) (λ d. d) %s" % (call, listed(a[0])), left, "afterwards bit_copy hex")]
     if op == "rebuild":
-        call = "rebuildKey %s %s %s %s %s" % (listed(a[0]), a[1], listed(a[2]), a[3], a[4])
-        return [(call, answer(case, key_value), "rebuildKey bitsOf hex")]
+        call = "rebuild_key %s %s %s %s %s" % (listed(a[0]), a[1], listed(a[2]), a[3], a[4])
+        return [(call, answer(case, key_value), "rebuild_key bits_of hex")]
     if op == "body":
-        return [("bodySize %s %s %s" % tuple(a), answer(case, number), "bodySize")]
+        return [("body_size %s %s %s" % tuple(a), answer(case, number), "body_size")]
     if op == "whole":
-        return [("wholeFromStored %s %s %s %s" % tuple(a), answer(case, number), "wholeFromStored")]
+        return [("whole_from_stored %s %s %s %s" % tuple(a), answer(case, number), "whole_from_stored")]
     if op == "stored":
-        return [("storedFromWhole %s %s %s %s" % tuple(a), answer(case, number), "storedFromWhole")]
+        return [("stored_from_whole %s %s %s %s" % tuple(a), answer(case, number), "stored_from_whole")]
     if op == "check":
         header = "(record { number = %s; n = %s; m = %s; q = %s; bits = %s })"
-        return [("checkPage %s" % listed(a[0]), answer(case, lambda values: header % tuple(values)), "checkPage hex")]
+        return [("check_page %s" % listed(a[0]), answer(case, lambda values: header % tuple(values)), "check_page hex")]
     if op == "entry":
         entry = "(record { key = %s; pointer = %s })"
-        return [("readEntry %s %s" % (listed(a[0]), a[1]),
-                 answer(case, lambda values: entry % (key(values[0]), values[1])), "readEntry bitsOf hex")]
+        return [("read_entry %s %s" % (listed(a[0]), a[1]),
+                 answer(case, lambda values: entry % (key(values[0]), values[1])), "read_entry bits_of hex")]
     call = "build %s %s %s %s %s" % (listed(a[0]), listed(a[1]), a[2], listed(a[3]), listed(a[4]))
     numbers = "(record { n = %s; m = %s; q = %s; bits = %s; undo = %s })"
     built = "record { answer = %s; page = %s; undo = %s }"
@@ -159,7 +159,7 @@ def module(cases):
         out.append("-- line %d: %s, %s" % (case["line"], case["op"], said))
         parts = facts(case)
         for part, (left, right, through) in enumerate(parts):
-            name = "line-%d" % case["line"] + ("" if len(parts) == 1 else "abc"[part])
+            name = "line_%d" % case["line"] + ("" if len(parts) == 1 else "abc"[part])
             out.append("%s : %s ≡ %s" % (name, left, right))
             out.append("unfolding %s" % through)
             out.append("%s = refl" % name)

@@ -34,7 +34,7 @@ fn built(s: &[u8], page: &mut [u8], was: &[u8], undo: &mut [u8]) -> bool {
         return false;
     }
     if cases::number(s, 6) != 0 {
-        return check::same(page, was);
+        return &*page == was;
     }
     cases::holds(s, 12, page)
 }

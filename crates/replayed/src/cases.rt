@@ -3,6 +3,9 @@
 // length before it, in four. Numbers are little-endian; a field that is one has eight bytes.
 ghost use Rattle.std.specs.Prelude.{◌≤◌, length};
 
+use std::fs::File;
+use std::io::Read;
+
 // The place of a field: the bytes from start up to end, where the next field's length stands.
 #[derive(Drop)]
 pub(crate) struct Part {
@@ -11,9 +14,9 @@ pub(crate) struct Part {
 }
 
 // How many cases the file has, by its first bytes; none where it has not so many.
-pub(crate) fn how_many(fd: i32) -> u64 {
+pub(crate) fn how_many(file: &mut File) -> u64 {
     let mut head = [0u8; 4];
-    if io::read_full(fd, &mut head) != 4 {
+    if file.read_exact(&mut head).is_err() {
         return 0;
     }
     numbers::le_u32(&head[..], 0)
@@ -36,12 +39,12 @@ fn opened(head: &[u8; 5]) -> Case {
 
 // Reads the next case, its fields to the start of buf; operation 0 and no fields where there is
 // none, or where buf has no room for them.
-pub(crate) fn read(fd: i32, buf: &mut [u8]) -> Case
+pub(crate) fn read(file: &mut File, buf: &mut [u8]) -> Case
     ensures { result.size ≤ length buf.new }
 {
     let none = Case { op: 0, size: 0 };
     let mut head = [0u8; 5];
-    if io::read_full(fd, &mut head) != 5 {
+    if file.read_exact(&mut head).is_err() {
         return none;
     }
     let c = opened(&head);
@@ -49,7 +52,7 @@ pub(crate) fn read(fd: i32, buf: &mut [u8]) -> Case
     if buf.len() < size {
         return none;
     }
-    if io::read_full(fd, &mut buf[0..size]) != size {
+    if file.read_exact(&mut buf[0..size]).is_err() {
         return none;
     }
     c
@@ -117,7 +120,7 @@ pub(crate) fn holds(s: &[u8], k: usize, bytes: &[u8]) -> bool {
     let f = field(s, k);
     let start = f.start;
     let end = f.end;
-    check::same(&s[start..end], bytes)
+    &s[start..end] == bytes
 }
 
 // Whether field k has the bytes of a key.

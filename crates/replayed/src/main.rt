@@ -3,6 +3,7 @@
 // For each file it prints its name and a line for each operation: the operation's name, how many
 // cases ran, and how many of them came out otherwise than they should.
 #![tactic(auto)]
+
 mod bits;
 mod builds;
 mod cases;
@@ -10,7 +11,8 @@ mod pages;
 
 ghost use Rattle.std.specs.Prelude.{◌<◌};
 
-use libc::STDOUT_FILENO;
+use std::fs::File;
+use std::io;
 
 // Runs a case of operation op.
 fn run(op: usize, s: &[u8]) -> bool {
@@ -40,8 +42,8 @@ fn count(tally: &mut [u64; 12], i: usize) {
 }
 
 // Reads the next case and runs it. One that cannot be read counts at place 0.
-fn step(fd: i32, buf: &mut [u8], ran: &mut [u64; 12], differed: &mut [u64; 12]) {
-    let c = cases::read(fd, buf);
+fn step(file: &mut File, buf: &mut [u8], ran: &mut [u64; 12], differed: &mut [u64; 12]) {
+    let c = cases::read(file, buf);
     let size = c.size;
     count(ran, c.op);
     if !run(c.op, &buf[0..size]) {
@@ -49,62 +51,62 @@ fn step(fd: i32, buf: &mut [u8], ran: &mut [u64; 12], differed: &mut [u64; 12]) 
     }
 }
 
-fn steps(fd: i32, buf: &mut [u8], ran: &mut [u64; 12], differed: &mut [u64; 12]) {
-    for _ in 0..cases::how_many(fd) {
-        step(fd, buf, ran, differed);
+fn steps(file: &mut File, buf: &mut [u8], ran: &mut [u64; 12], differed: &mut [u64; 12]) {
+    for _ in 0..cases::how_many(file) {
+        step(file, buf, ran, differed);
     }
 }
 
 // Prints an operation's name and place i of both tallies.
-fn line(name: &[u8], ran: &[u64; 12], differed: &[u64; 12], i: usize)
+fn line(
+    rt: &impl Print,
+    name: &str,
+    ran: &[u64; 12],
+    differed: &[u64; 12],
+    i: usize,
+) -> io::Result<()>
     requires { i < 12 }
 {
-    io::write_all(STDOUT_FILENO, name);
-    io::write_all(STDOUT_FILENO, b" ");
-    io::print_decimal(STDOUT_FILENO, ran[i]);
-    io::write_all(STDOUT_FILENO, b" ");
-    io::print_decimal(STDOUT_FILENO, differed[i]);
-    io::write_all(STDOUT_FILENO, b"\n");
+    println!(rt; "{name} {} {}", ran[i], differed[i])
 }
 
-fn report(ran: &[u64; 12], differed: &[u64; 12]) {
-    line(b"sep_len", ran, differed, 1);
-    line(b"shared", ran, differed, 2);
-    line(b"separate", ran, differed, 3);
-    line(b"copy", ran, differed, 4);
-    line(b"rebuild", ran, differed, 5);
-    line(b"body", ran, differed, 6);
-    line(b"whole", ran, differed, 7);
-    line(b"stored", ran, differed, 8);
-    line(b"check and entry", ran, differed, 9);
-    line(b"build", ran, differed, 10);
+fn report(rt: &impl Print, ran: &[u64; 12], differed: &[u64; 12]) -> io::Result<()> {
+    line(rt, "sep_len", ran, differed, 1)?;
+    line(rt, "shared", ran, differed, 2)?;
+    line(rt, "separate", ran, differed, 3)?;
+    line(rt, "copy", ran, differed, 4)?;
+    line(rt, "rebuild", ran, differed, 5)?;
+    line(rt, "body", ran, differed, 6)?;
+    line(rt, "whole", ran, differed, 7)?;
+    line(rt, "stored", ran, differed, 8)?;
+    line(rt, "check and entry", ran, differed, 9)?;
+    line(rt, "build", ran, differed, 10)?;
     if ran[0] != 0 {
-        line(b"not a case", ran, differed, 0);
+        line(rt, "not a case", ran, differed, 0)?;
     }
+    Ok(())
 }
 
-fn replay(fd: i32) {
+fn replay(rt: &impl Print, file: &mut File) -> io::Result<()> {
     let mut ran = [0u64; 12];
     let mut differed = [0u64; 12];
-    let mut buf = io::large_buffer();
-    steps(fd, &mut buf, &mut ran, &mut differed);
-    report(&ran, &differed);
+    let mut buf = [0u8; 65536];
+    steps(file, &mut buf, &mut ran, &mut differed);
+    report(rt, &ran, &differed)
 }
 
 // Replays a file of cases.
-fn replay_file(name: &[u8]) {
-    let fd = os::open_read(name);
-    if fd < 0 {
-        os::fail(name);
-        return;
+fn replay_file(rt: &HostRuntime, name: &str) -> io::Result<()> {
+    match File::open(rt, name) {
+        Ok(mut file) => {
+            println!(rt; "{name}")?;
+            replay(rt, &mut file)
+        }
+        Err(e) => eprintln!(rt; "{name}: {e}"),
     }
-    io::write_all(STDOUT_FILENO, name);
-    io::write_all(STDOUT_FILENO, b"\n");
-    replay(fd);
-    libc::close(fd);
 }
 
-fn main() {
-    replay_file(b"cases");
-    replay_file(b"frozen");
+fn main(rt: HostRuntime) -> io::Result<()> {
+    replay_file(&rt, "cases")?;
+    replay_file(&rt, "frozen")
 }

@@ -3,6 +3,7 @@
 // it, and tells its answer in numbers: document 01's number of the refusal, 0 for none. After a
 // refusal lent memory is as it was. include/trussember.h says the same in C.
 #![tactic(auto)]
+
 pub mod answers;
 
 ghost use Rattle.std.specs.Prelude.{◌≡◌};
@@ -33,6 +34,7 @@ fn number(o: Outcome) -> u64
 }
 
 // A size as C gets it.
+#[tactic(auto, unfolding(crate::specs::Told::size_told))]
 fn told(s: sizes::Size) -> Size
     ensures answer { result ≡ size_told (size_answer s) }
 {
@@ -49,6 +51,7 @@ fn told(s: sizes::Size) -> Size
 }
 
 // Checks a page: its header, or the first of 1 to 8 that holds.
+#[tactic(auto, unfolding(crate::specs::Told::checked_told))]
 #[unsafe(no_mangle)]
 pub extern "C" fn trussember_check(page: &[u8]) -> Checked
     ensures answer { result ≡ checked_told (check_page page.now) }
@@ -74,6 +77,7 @@ pub extern "C" fn trussember_check(page: &[u8]) -> Checked
 }
 
 // Entry `index` of a page: its pointer, and its key into `key`. Refused with 1 to 8, then with 16.
+#[tactic(auto, unfolding(crate::specs::Told::entry_told))]
 #[unsafe(no_mangle)]
 pub extern "C" fn trussember_entry(page: &[u8], index: usize, key: &mut [u8; 32]) -> EntryRead
     ensures answer { result ≡ entry_told (pointer_read (read_entry page.now index)) }
@@ -94,6 +98,7 @@ pub extern "C" fn trussember_entry(page: &[u8], index: usize, key: &mut [u8; 32]
 
 // Builds a page from a base and an edit record, and the record that undoes it: n, m, q and bits of
 // the page, and the undo record's length. A base of length 0 means no base. Refused with 1 to 15.
+#[tactic(auto, unfolding(crate::specs::Told::built_told))]
 #[unsafe(no_mangle)]
 pub extern "C" fn trussember_build(
     base: &[u8],
