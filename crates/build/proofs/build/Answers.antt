@@ -151,7 +151,7 @@ pub finish-requires : goal.finish-requires
 finish-requires c =
     can_finish _ _ 0 _ _ _ _
     c.load_base.ensures.known _ c.in-Page.is
-    c.if-page-ne-PAGE_SIZE.false _ _ _ c.plan.ensures.known _ c.in-Page-plan.is
+    (search rules) _ _ _ c.plan.ensures.known _ c.in-Page-plan.is
 
 pub returns-in-Refused : goal.returns-in-Refused
 returns-in-Refused c = search (rules, laws)
@@ -160,13 +160,13 @@ pub returns-in-Refused-plan : goal.returns-in-Refused-plan
 returns-in-Refused-plan c = record {
   answer = plan_answer _ _ _ _ _ _ _
       c.load_base.ensures.known _ c.in-Page.is
-      c.if-page-ne-PAGE_SIZE.false _ _ _ c.plan.ensures.known _ c.in-Refused-plan.is;
+      (search rules) _ _ _ c.plan.ensures.known _ c.in-Refused-plan.is;
   page = plan-page _ _ _ _ _ _ _
       c.load_base.ensures.known _ c.in-Page.is
-      c.if-page-ne-PAGE_SIZE.false _ _ _ c.plan.ensures.known _ c.in-Refused-plan.is;
+      (search rules) _ _ _ c.plan.ensures.known _ c.in-Refused-plan.is;
   undo = plan_undo _ _ _ _ _ _ _
       c.load_base.ensures.known _ c.in-Page.is
-      c.if-page-ne-PAGE_SIZE.false _ _ _ c.plan.ensures.known _ c.in-Refused-plan.is;
+      (search rules) _ _ _ c.plan.ensures.known _ c.in-Refused-plan.is;
 }
 
 pub shape_of-page : goal.shape_of-page
@@ -179,11 +179,11 @@ pub returns-in-Page-plan : goal.returns-in-Page-plan
 returns-in-Page-plan c = record {
   answer = done_answer _ _ _ _ _ _ _
       c.load_base.ensures.known _ c.in-Page.is
-      c.if-page-ne-PAGE_SIZE.false _ _ _ c.plan.ensures.known _ c.in-Page-plan.is _ _ c.finish.ensures.page c.finish.ensures.undo;
+      (search rules) _ _ _ c.plan.ensures.known _ c.in-Page-plan.is _ _ c.finish.ensures.page c.finish.ensures.undo;
   page = done_page _ _ _ _ _ _ _
       c.load_base.ensures.known _ c.in-Page.is
-      c.if-page-ne-PAGE_SIZE.false _ _ _ c.plan.ensures.known _ c.in-Page-plan.is _ _ c.finish.ensures.page c.finish.ensures.undo;
+      (search rules) _ _ _ c.plan.ensures.known _ c.in-Page-plan.is _ _ c.finish.ensures.page c.finish.ensures.undo;
   undo = done_undo _ _ _ _ _ _ _
       c.load_base.ensures.known _ c.in-Page.is
-      c.if-page-ne-PAGE_SIZE.false _ _ _ c.plan.ensures.known _ c.in-Page-plan.is _ _ c.finish.ensures.page c.finish.ensures.undo;
+      (search rules) _ _ _ c.plan.ensures.known _ c.in-Page-plan.is _ _ c.finish.ensures.page c.finish.ensures.undo;
 }
