@@ -48,13 +48,22 @@ same_bytes-true (x ∷ xs) (y ∷ ys) e =
     ap₂ ◌∷◌ (eqb-true x y (and_left (eqb x y) (same_bytes xs ys) e))
     (same_bytes-true xs ys (and_right (eqb x y) (same_bytes xs ys) e))
 
+-- a test that is exact is this one
+pub same_bytes_is : (a b : List ℕ) (r : Bool) → (r ≡ true → a ≡ b) → (a ≡ b → r ≡ true) → r ≡ same_bytes a b
+same_bytes_is a b r f g = go (same_bytes a b) r refl refl
+  where
+    go : (x y : Bool) → same_bytes a b ≡ x → r ≡ y → y ≡ x
+    go true y ex ey = sym ey ∙ g (same_bytes-true a b ex)
+    go false false ex ey = refl
+    go false true ex ey = sym (sym ex ∙ ap (same_bytes a) (sym (f ey)) ∙ same_bytes-refl a)
+
 -- what `==` of two slices answers
-pub same_bytes_is : (a b : List ℕ) → pointwise eqb a b ≡ same_bytes a b
+pub pointwise-same_bytes : (a b : List ℕ) → pointwise eqb a b ≡ same_bytes a b
 unfolding same_bytes
-same_bytes_is [] [] = refl
-same_bytes_is [] (y ∷ ys) = refl
-same_bytes_is (x ∷ xs) [] = refl
-same_bytes_is (x ∷ xs) (y ∷ ys) = ap (λ (b : Bool). eqb x y && b) (same_bytes_is xs ys)
+pointwise-same_bytes [] [] = refl
+pointwise-same_bytes [] (y ∷ ys) = refl
+pointwise-same_bytes (x ∷ xs) [] = refl
+pointwise-same_bytes (x ∷ xs) (y ∷ ys) = ap (λ (b : Bool). eqb x y && b) (pointwise-same_bytes xs ys)
 
 -- ---- the normal page of a base
 

@@ -15,7 +15,7 @@ use Rattle.build.specs.declared.Built.{Built}
 use Rattle.build.specs.declared.Built.TheVariants.{Page, Refused}
 use Rattle.build.specs.Built.{built_answer, numbers_meant}
 use Rattle.round_trip.specs.Trip.{blank_page, blank_undo, brings_again}
-use Rattle.round_trip.proofs.TripLaws.{brings_none, brings_same, same_bytes_is}
+use Rattle.round_trip.proofs.TripLaws.{brings_none, brings_same, pointwise-same_bytes}
 
 module _ (over rec : List ℕ) (number : ℕ) (p : List ℕ) (x : Built)
     (ex : built_answer x ≡ (build over rec number (replicate 4096 0) (replicate 24704 0)).answer) where
@@ -28,7 +28,7 @@ module _ (over rec : List ℕ) (number : ℕ) (p : List ℕ) (x : Built)
       → left ≡ page → (r : Bool) → r ≡ pointwise eqb left p → r ≡ brings_again over rec number p
   unfolding blank_page blank_undo
   same v e page left ep el r er =
-      brings_same over rec number p (numbers_meant v) left r (sym (ap built_answer e) ∙ ex) (el ∙ ep) (er ∙ same_bytes_is left p)
+      brings_same over rec number p (numbers_meant v) left r (sym (ap built_answer e) ∙ ex) (el ∙ ep) (er ∙ pointwise-same_bytes left p)
 
 ruleset laws = (refused, same)
 

@@ -25,7 +25,7 @@ use Rattle.branch_ops.specs.declared.choice.Chosen.{Chosen}
 use Rattle.branch_ops.specs.declared.choice.Chosen.TheVariants.{Taken, Refused as NotChosen}
 use Rattle.builder.specs.Writes.{Wrote}
 use Rattle.round_trip.specs.Trip.{is_normal}
-use Rattle.round_trip.proofs.TripLaws.{always_chosen, normal_same, not_normal, own_normal, same_bytes_is}
+use Rattle.round_trip.proofs.TripLaws.{always_chosen, normal_same, not_normal, own_normal, pointwise-same_bytes}
 
 module _ (base p : List ℕ) (x : Checked) (ex : checked_answer x ≡ check_page base) where
   refused : (r : Refusal) → x ≡ Refused r → false ≡ is_normal base p
@@ -56,7 +56,7 @@ module _ (base p : List ℕ) (x : Checked) (ex : checked_answer x ≡ check_page
           (own_normal base h read (replicate 4092 0) t (length-replicate {A = ℕ} 4092 0) et
           (record { m = c.m; q = c.q; bits = c.bits }) k number (replicate 4096 0) own w (length-replicate {A = ℕ} 4096 0)
           number_is wrote)
-          (er ∙ ap (λ (l : List ℕ). pointwise eqb l p) el ∙ same_bytes_is own p)
+          (er ∙ ap (λ (l : List ℕ). pointwise eqb l p) el ∙ pointwise-same_bytes own p)
 
 ruleset laws = (refused, never, same)
 
