@@ -7,12 +7,11 @@ use mathlib.Core.Path.{◌≡◌, refl, sym, ap, ◌∙◌}
 use Prim.Native.Nat.{ℕ, ◌≤◌}
 use native.Mathlib.Omega.{arith}
 use lib.Dec.{eqb}
+use Rattle.std.specs.Prelude.{⊤, Result, Ok, Err}
 use Rattle.format.specs.Answer.{Answer, refusal_of}
-use Rattle.format.specs.Refusals.{refusal_number, outcome_number}
+use Rattle.format.specs.Refusals.{refusal_number, outcome_number, answer_of}
 use Rattle.format.specs.declared.refusal.Refusal.{Refusal}
 use Rattle.format.specs.declared.refusal.Refusal.TheVariants.{PageLength, NoEntries, CompressedCount, PrefixLength, BodyTooLong, OffsetsFall, EntryBits, KeysNotAscending, OutputLength, MalformedRecord, EditOutside, NoEdits, NewKeysNotAscending, NoRoom, UndoTooShort, IndexPastEnd, NotBelow, RangeOutside, Unrepresentable}
-use Rattle.format.specs.declared.refusal.Outcome.{Outcome}
-use Rattle.format.specs.declared.refusal.Outcome.TheVariants.{Done, Refused}
 
 -- the refusal that has a number; 19 and any other: the last
 named : ℕ → Refusal
@@ -83,11 +82,11 @@ refusal_number_positive NotBelow = omega arith
 refusal_number_positive RangeOutside = omega arith
 refusal_number_positive Unrepresentable = omega arith
 
-pub outcome_number_inj : (a b : Outcome) → outcome_number a ≡ outcome_number b → a ≡ b
-outcome_number_inj Done Done e = refl
-outcome_number_inj Done (Refused s) e = absurd (omega (arith, refusal_number_positive s))
-outcome_number_inj (Refused r) Done e = absurd (omega (arith, refusal_number_positive r))
-outcome_number_inj (Refused r) (Refused s) e = ap Refused (refusal_number_inj r s e)
+pub outcome_number_inj : (a b : Result ⊤ Refusal) → outcome_number a ≡ outcome_number b → a ≡ b
+outcome_number_inj (Ok x) (Ok y) e = refl
+outcome_number_inj (Ok x) (Err s) e = absurd (omega (arith, refusal_number_positive s))
+outcome_number_inj (Err r) (Ok y) e = absurd (omega (arith, refusal_number_positive r))
+outcome_number_inj (Err r) (Err s) e = ap Err (refusal_number_inj r s e)
 
 -- the value of an answer; d where it is refused
 unfoldable pub value_or : {A : Type 0} → A → Answer A → A
@@ -104,3 +103,11 @@ module _ {A : Type 0} where
   pub value-refused : (x : A) (r : Refusal) → Answer.Value x ≡ Answer.Refused (refusal_number r) → ⊥
   unfolding refusal_of
   value-refused x r e = let z : 0 ≡ refusal_number r = ap refusal_of e in omega (arith, refusal_number_positive r)
+
+-- an answer whose value tells the result tells all of it
+pub answer_of_inj : {R A : Type 0} (f : R → A) → ((x y : R) → f x ≡ f y → x ≡ y) → (a b : Result R Refusal)
+    → answer_of f a ≡ answer_of f b → a ≡ b
+answer_of_inj f u (Ok x) (Ok y) e = ap Ok (u x y (cc))
+answer_of_inj f u (Ok x) (Err s) e = absurd (value-refused (f x) s e)
+answer_of_inj f u (Err r) (Ok y) e = absurd (value-refused (f y) r (sym e))
+answer_of_inj f u (Err r) (Err s) e = ap Err (refused_same r s e)

@@ -1,11 +1,10 @@
 -- The refusals of the code and document 01's number for each. Document 01, "Refusal numbers".
--- In order: refusal_number outcome_number.
+-- In order: refusal_number outcome_number answer_of.
 -- Assumes nothing.
-use Rattle.std.specs.Prelude.{ℕ}
+use Rattle.std.specs.Prelude.{ℕ, ⊤, Result, Ok, Err}
+use Rattle.format.specs.Answer.{Answer}
 use Rattle.format.specs.declared.refusal.Refusal.{Refusal}
 use Rattle.format.specs.declared.refusal.Refusal.TheVariants.{PageLength, NoEntries, CompressedCount, PrefixLength, BodyTooLong, OffsetsFall, EntryBits, KeysNotAscending, OutputLength, MalformedRecord, EditOutside, NoEdits, NewKeysNotAscending, NoRoom, UndoTooShort, IndexPastEnd, NotBelow, RangeOutside, Unrepresentable}
-use Rattle.format.specs.declared.refusal.Outcome.{Outcome}
-use Rattle.format.specs.declared.refusal.Outcome.TheVariants.{Done, Refused}
 
 -- The number of a refusal.
 abbrev pub refusal_number : Refusal → ℕ
@@ -30,6 +29,11 @@ refusal_number RangeOutside = 18
 refusal_number Unrepresentable = 19
 
 -- The number of an outcome: 0 for what is done.
-abbrev pub outcome_number : Outcome → ℕ
-outcome_number Done = 0
-outcome_number (Refused r) = refusal_number r
+abbrev pub outcome_number : Result ⊤ Refusal → ℕ
+outcome_number (Ok done) = 0
+outcome_number (Err r) = refusal_number r
+
+-- What a call answers: the value that f gives of its result, or the number of the refusal.
+abbrev pub answer_of : {R A : Type 0} → (R → A) → Result R Refusal → Answer A
+answer_of f (Ok x) = Answer.Value (f x)
+answer_of f (Err r) = Answer.Refused (refusal_number r)

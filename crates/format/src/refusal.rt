@@ -1,7 +1,12 @@
-// The refusals of document 01, a case for each, named by its cause. Its number: `refusal_number` of
-// specs/Refusals.antt.
+// The refusals of document 01, a case for each, named by its cause: what a `Result` of this project
+// has for its error. Its number: `refusal_number` of specs/Refusals.antt.
+ghost use Rattle.std.specs.Prelude.{◌≡◌};
+ghost use Rattle.format.specs.Refusals.{refusal_number};
 
-#[derive(Clone, Copy)]
+use std::error::Error;
+use std::fmt;
+
+#[derive(Clone, Copy, Debug, PartialEq, Eq, Hash)]
 pub enum Refusal {
     // 1: the page's length is not 4,096.
     PageLength,
@@ -43,9 +48,64 @@ pub enum Refusal {
     Unrepresentable,
 }
 
-// What a call answers that gives no value: it is done, or refused. Its number: `outcome_number`.
-#[derive(Clone, Copy)]
-pub enum Outcome {
-    Done,
-    Refused(Refusal),
+// Document 01's number.
+impl From<Refusal> for u64 {
+    ghost from_gives = { λ why n. n ≡ refusal_number why };
+
+    fn from(why: Refusal) -> u64 {
+        match why {
+            Refusal::PageLength => 1,
+            Refusal::NoEntries => 2,
+            Refusal::CompressedCount => 3,
+            Refusal::PrefixLength => 4,
+            Refusal::BodyTooLong => 5,
+            Refusal::OffsetsFall => 6,
+            Refusal::EntryBits => 7,
+            Refusal::KeysNotAscending => 8,
+            Refusal::OutputLength => 9,
+            Refusal::MalformedRecord => 10,
+            Refusal::EditOutside => 11,
+            Refusal::NoEdits => 12,
+            Refusal::NewKeysNotAscending => 13,
+            Refusal::NoRoom => 14,
+            Refusal::UndoTooShort => 15,
+            Refusal::IndexPastEnd => 16,
+            Refusal::NotBelow => 17,
+            Refusal::RangeOutside => 18,
+            Refusal::Unrepresentable => 19,
+        }
+    }
 }
+
+// Document 01's words.
+impl fmt::Display for Refusal {
+    fn fmt<W: fmt::Write>(&self, f: &mut fmt::Formatter<W>) -> fmt::Result {
+        f.write_str(match self {
+            Refusal::PageLength => "page length not 4,096 (build also takes 0)",
+            Refusal::NoEntries => "n = 0",
+            Refusal::CompressedCount => "m = 0 or m > n",
+            Refusal::PrefixLength => "q > 256",
+            Refusal::BodyTooLong => "6n > 4,086, or body bytes with the last end offset > 4,086",
+            Refusal::OffsetsFall => "an end offset below the one before",
+            Refusal::EntryBits =>
+                "an entry whose bits (q if compressed, plus separator) are 0 or over 256",
+            Refusal::KeysNotAscending => "keys not strictly ascending",
+            Refusal::OutputLength => "output page not 4,096 bytes",
+            Refusal::MalformedRecord =>
+                "malformed edit record: short, kind 3, extra bytes, nonzero padding",
+            Refusal::EditOutside =>
+                "Update position >= n of the base; Keep with start >= end or end > n",
+            Refusal::NoEdits => "no edits",
+            Refusal::NewKeysNotAscending => "new keys not strictly ascending",
+            Refusal::NoRoom => "no permitted choice has body bytes <= 4,086",
+            Refusal::UndoTooShort => "undo buffer shorter than the undo record",
+            Refusal::IndexPastEnd => "entry index >= n (after 1-8)",
+            Refusal::NotBelow => "separate with a >= b",
+            Refusal::RangeOutside => "bit range outside its slice",
+            Refusal::Unrepresentable =>
+                "more than 256 bits for a key; a size formula that cannot be answered",
+        })
+    }
+}
+
+impl Error for Refusal {}
