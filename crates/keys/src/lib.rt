@@ -7,7 +7,7 @@ ghost use Rattle.format.specs.Bits.{bits, bits_of, fill, pack};
 ghost use Rattle.format.specs.Key.{separator_length, shared_bits, below};
 ghost use Rattle.keys.specs.Keys.{key_bits};
 
-#[derive(Clone, Copy)]
+#[derive(Clone, Copy, Debug, Default, PartialEq, Eq)]
 pub struct Key {
     pub a: u64,
     pub b: u64,

@@ -1,75 +1,58 @@
-// Entries as rows of a table of words, six to a row: four of key, the pointer, the position in the
-// base. Words past the table's end read as zeros, and a row that the table has not is not stored.
-// What a table holds: specs/Rows.antt.
-ghost use Rattle.std.specs.Prelude.{◌≡◌, ◌++◌, ◌+◌, ◌≤◌, drop, get_or, length, take};
+// Entries as rows of a lent table. Past the table's end a row reads as zeros, and a row that the
+// table has not is not stored. What a table holds: specs/Rows.antt.
+ghost use Rattle.std.specs.Prelude.{◌≡◌, get_or};
 ghost use Rattle.keys.specs.Keys.{key_bits};
-ghost use Rattle.rows.specs.Rows.{row_key, row_pointer, row_source, row_words, with_row};
+ghost use Rattle.rows.specs.Rows.{row_key, row_pointer, row_source, with_row, zero_row};
 
 use keys::Key;
 
-// The word at i.
-fn word_at(t: &[u64], i: usize) -> u64
-    ensures answer { result ≡ get_or t.now i 0 }
+// An entry and its position in the base; by default zeros.
+#[derive(Clone, Copy, Debug, Default, PartialEq, Eq)]
+pub struct Row {
+    pub key: Key,
+    pub pointer: u64,
+    pub source: u64,
+}
+
+// Row i.
+#[tactic(auto, unfolding(crate::specs::Rows::zero_row))]
+pub fn row_at(t: &[Row], i: usize) -> Row
+    ensures answer { result ≡ get_or t.now i zero_row }
 {
-    if i < t.len() { t[i] } else { 0 }
+    t.get(i).copied().unwrap_or_default()
 }
 
 // The key of row i.
-pub fn key_of(t: &[u64], i: usize) -> Key
+#[tactic(auto, unfolding(crate::specs::Rows::row_key))]
+pub fn key_of(t: &[Row], i: usize) -> Key
     ensures answer { key_bits result ≡ row_key t.now i }
 {
-    if t.len() / 6 < i {
-        return Key::zero();
-    }
-    Key {
-        a: word_at(t, 6 * i),
-        b: word_at(t, 6 * i + 1),
-        c: word_at(t, 6 * i + 2),
-        d: word_at(t, 6 * i + 3),
-    }
+    row_at(t, i).key
 }
 
 // The pointer of row i.
-pub fn pointer_of(t: &[u64], i: usize) -> u64
+#[tactic(auto, unfolding(crate::specs::Rows::row_pointer))]
+pub fn pointer_of(t: &[Row], i: usize) -> u64
     ensures answer { result ≡ row_pointer t.now i }
 {
-    if t.len() / 6 < i {
-        return 0;
-    }
-    word_at(t, 6 * i + 4)
+    row_at(t, i).pointer
 }
 
 // The position in the base of row i.
-pub fn source_of(t: &[u64], i: usize) -> u64
+#[tactic(auto, unfolding(crate::specs::Rows::row_source))]
+pub fn source_of(t: &[Row], i: usize) -> u64
     ensures answer { result ≡ row_source t.now i }
 {
-    if t.len() / 6 < i {
-        return 0;
-    }
-    word_at(t, 6 * i + 5)
-}
-
-// An entry and its position in the base into the six words from j on, which are there.
-fn set_six(t: &mut [u64], j: usize, k: Key, pointer: u64, source: u64)
-    requires { j + 6 ≤ length t.old }
-    ensures written { t.new ≡ take j t.old
-        ++ row_words (record { key = key_bits k; pointer = pointer }) source
-        ++ drop (j + 6) t.old }
-{
-    t[j] = k.a;
-    t[j + 1] = k.b;
-    t[j + 2] = k.c;
-    t[j + 3] = k.d;
-    t[j + 4] = pointer;
-    t[j + 5] = source;
+    row_at(t, i).source
 }
 
 // An entry and its position in the base into row i; nothing where the table has no such row.
-pub fn set_row(t: &mut [u64], i: usize, k: Key, pointer: u64, source: u64)
-    ensures written { t.new
-        ≡ with_row t.old i (record { key = key_bits k; pointer = pointer }) source }
+#[tactic(auto, using(crate::proofs::RowsLaws::set_row_in, crate::proofs::RowsLaws::set_row_out))]
+pub fn set_row(t: &mut [Row], i: usize, row: Row)
+    ensures written { t.new ≡ with_row t.old i
+        (record { key = key_bits row.key; pointer = row.pointer }) row.source }
 {
-    if i < t.len() / 6 {
-        set_six(t, 6 * i, k, pointer, source);
+    if i < t.len() {
+        t[i] = row;
     }
 }
