@@ -7,7 +7,7 @@ use mathlib.Core.Path.{◌≡◌, refl, sym, ap, ◌∙◌}
 use Prim.Native.Nat.{ℕ, ◌≤◌}
 use native.Mathlib.Omega.{arith}
 use lib.Dec.{eqb}
-use Rattle.std.specs.Prelude.{⊤, Result, Ok, Err}
+use Rattle.std.specs.Prelude.{⊤, Result, Ok, Err, IsErr, IsErrAnd}
 use Rattle.format.specs.Answer.{Answer, refusal_of}
 use Rattle.format.specs.Refusals.{refusal_number, outcome_number, answer_of}
 use Rattle.format.specs.declared.refusal.Refusal.{Refusal}
@@ -111,3 +111,8 @@ answer_of_inj f u (Ok x) (Ok y) e = ap Ok (u x y (cc))
 answer_of_inj f u (Ok x) (Err s) e = absurd (value-refused (f x) s e)
 answer_of_inj f u (Err r) (Ok y) e = absurd (value-refused (f y) r (sym e))
 answer_of_inj f u (Err r) (Err s) e = ap Err (refused_same r s e)
+
+-- what `?` hands on is the refusal that came
+pub err_handed : {R : Type 0} (r : Result R Refusal) (e : Refusal) → IsErr r → IsErrAnd r (λ (x : Refusal). x ≡ e) → r ≡ Err e
+err_handed (Ok x) e u v = absurd v
+err_handed (Err x) e u v = ap Err v

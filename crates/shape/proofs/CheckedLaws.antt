@@ -13,8 +13,8 @@ use Rattle.format.specs.Page.{Header, check_page, count, header_of, key_of, page
 use Rattle.format.specs.Refusals.{refusal_number}
 use Rattle.facts.proofs.AcceptedLaws.{Accepted, accepted-page_refusal}
 use Rattle.shape.specs.declared.Header.{Header as Numbers}
-use Rattle.shape.specs.declared.Checked.{Checked}
-use Rattle.shape.specs.declared.Checked.TheVariants.{Page, Refused}
+use Rattle.std.specs.Prelude.{Result, Ok, Err}
+use Rattle.format.specs.declared.refusal.Refusal.{Refusal}
 use Rattle.shape.specs.Shape.{Early, ShapeFits, Shaping, SizesFit, check_shape, checked_answer, header_meant, unordered}
 use Rattle.shape.proofs.TestsLaws.{header_meant_lem, pass_7}
 
@@ -98,6 +98,6 @@ fits_answer p h f = ap (λ (v : Header). Answer.Value v) (header_meant_lem p h f
     go true e = answers p 8 (pass_7 p h f ∙ ap (λ (b : Bool). cond b 8 0) e)
     go false e = answers p 0 (pass_7 p h f ∙ ap (λ (b : Bool). cond b 8 0) e)
 
-pub shaping_answer : (p : List ℕ) (c : Checked) → Shaping p c → checked_answer c ≡ check_shape p
-shaping_answer p (Page h) f = fits_answer p h f
-shaping_answer p (Refused r) e = early_answer p (refusal_number r) e
+pub shaping_answer : (p : List ℕ) (c : Result Numbers Refusal) → Shaping p c → checked_answer c ≡ check_shape p
+shaping_answer p (Ok h) f = fits_answer p h f
+shaping_answer p (Err r) e = early_answer p (refusal_number r) e

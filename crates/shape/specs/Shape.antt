@@ -2,7 +2,7 @@
 -- to 8.
 -- In order: header_meant checked_answer · check_shape · falling misfit unordered · Early SizesFit Sizing ShapeFits Shaping.
 -- Assumes nothing.
-use Rattle.std.specs.Prelude.{◌≡◌, ℕ, suc, ◌+◌, ◌-◌, ◌≤◌, ◌<◌, Bool, false, ◌||◌, cond, not, List, eqb, ltb, length}
+use Rattle.std.specs.Prelude.{◌≡◌, ℕ, suc, ◌+◌, ◌-◌, ◌≤◌, ◌<◌, Bool, false, ◌||◌, cond, not, List, Result, Ok, Err, eqb, ltb, length}
 use Rattle.format.specs.Answer.{Answer, some, unless}
 use Rattle.format.specs.Key.{below}
 use Rattle.format.specs.Page.{
@@ -19,19 +19,17 @@ use Rattle.format.specs.Page.{
   page_refusal,
   check_page,
 }
-use Rattle.format.specs.Refusals.{refusal_number}
+use Rattle.format.specs.Refusals.{refusal_number, answer_of}
+use Rattle.format.specs.declared.refusal.Refusal.{Refusal}
 use Rattle.shape.specs.declared.Header.{Header as Numbers}
-use Rattle.shape.specs.declared.Checked.{Checked}
-use Rattle.shape.specs.declared.Checked.TheVariants.{Page, Refused}
 
 -- The header that the code's numbers stand for.
 abbrev pub header_meant : Numbers → Header
 header_meant h = record { number = h.number; n = h.n; m = h.m; q = h.q; bits = h.bits }
 
 -- What a check answers: the header, or the number of the refusal.
-abbrev pub checked_answer : Checked → Answer Header
-checked_answer (Page h) = Answer.Value (header_meant h)
-checked_answer (Refused r) = Answer.Refused (refusal_number r)
+abbrev pub checked_answer : Result Numbers Refusal → Answer Header
+checked_answer r = answer_of header_meant r
 
 -- What a check answers but for the order of the keys: the header, unless one of 1 to 7 holds.
 unfoldable pub check_shape : List ℕ → Answer Header
@@ -74,9 +72,9 @@ pub record SizesFit (p : List ℕ) (h : Numbers) : Type 0 where
   pub fits : body_bytes (count p) (prefix_length p) (start_of p (count p)) ≤ 4086
 
 -- What the tests for 1 to 5 tell: that, or the first that holds.
-abbrev pub Sizing : List ℕ → Checked → Type 0
-Sizing p (Page h) = SizesFit p h
-Sizing p (Refused r) = Early p (refusal_number r)
+abbrev pub Sizing : List ℕ → Result Numbers Refusal → Type 0
+Sizing p (Ok h) = SizesFit p h
+Sizing p (Err r) = Early p (refusal_number r)
 
 -- Refusals 1 to 7 do not hold, and h has the numbers of the header.
 pub record ShapeFits (p : List ℕ) (h : Numbers) : Type 0 where
@@ -85,6 +83,6 @@ pub record ShapeFits (p : List ℕ) (h : Numbers) : Type 0 where
   pub none_misfits : misfit p h.n ≡ false
 
 -- What the tests for 1 to 7 tell: that, or the first that holds.
-abbrev pub Shaping : List ℕ → Checked → Type 0
-Shaping p (Page h) = ShapeFits p h
-Shaping p (Refused r) = Early p (refusal_number r)
+abbrev pub Shaping : List ℕ → Result Numbers Refusal → Type 0
+Shaping p (Ok h) = ShapeFits p h
+Shaping p (Err r) = Early p (refusal_number r)

@@ -21,20 +21,13 @@ use format::layout;
 use format::refusal::Refusal;
 
 // What a page's header says, and how many bits prefix and separators have.
-#[derive(Clone, Copy)]
+#[derive(Clone, Copy, Debug, PartialEq, Eq)]
 pub struct Header {
     pub number: u64,
     pub n: usize,
     pub m: usize,
     pub q: usize,
     pub bits: usize,
-}
-
-// What checking a page answers: its header, or one of 1 to 8.
-#[derive(Clone, Copy)]
-pub enum Checked {
-    Page(Header),
-    Refused(Refusal),
 }
 
 // Where separator i ends, in bits from the prefix's end; 0 where the page has no such bytes.
@@ -65,38 +58,29 @@ pub fn prefix_bits(h: Header, i: usize) -> usize
 fn misfits(bits: usize, found: bool) -> bool
     ensures answer { result ≡ (eqb bits 0 || ltb 256 bits) || found }
 {
-    if bits == 0 {
-        return true;
-    }
-    if 256 < bits {
-        return true;
-    }
-    found
+    bits == 0 || 256 < bits || found
 }
 
 // Refusals 6 and 7, or the header. An end offset that falls comes first, so that the pass goes on
 // where an entry does not fit.
-fn fitted(page: &[u8], h: Header) -> Checked
+fn fitted(page: &[u8], h: Header) -> Result<Header, Refusal>
     requires { SizesFit page.now h }
     ensures answer { Shaping page.now result }
 {
-    let n = h.n;
-    let mut before: usize = 0;
+    let mut before = 0;
     let mut found = false;
-    let mut i: usize = 0;
-    while i < n {
+    for i in 0..h.n {
         let end = cell(page, i);
         if end < before {
-            return Checked::Refused(Refusal::OffsetsFall);
+            return Err(Refusal::OffsetsFall);
         }
         found = misfits(prefix_bits(h, i) + (end - before), found);
         before = end;
-        i += 1;
     }
     if found {
-        return Checked::Refused(Refusal::EntryBits);
+        return Err(Refusal::EntryBits);
     }
-    Checked::Page(h)
+    Ok(h)
 }
 
 // Whether the body of n entries, with q bits of prefix and `sum` bits of separators, fits a page.
@@ -110,34 +94,34 @@ pub fn body_fits(n: usize, q: usize, sum: usize) -> bool
 }
 
 // Refusals 1 to 5, or the header.
-fn sized(page: &[u8]) -> Checked
+fn sized(page: &[u8]) -> Result<Header, Refusal>
     ensures answer { Sizing page.now result }
 {
     if page.len() != layout::PAGE_SIZE {
-        return Checked::Refused(Refusal::PageLength);
+        return Err(Refusal::PageLength);
     }
     let n = numbers::le_u16(page, 4);
     if n == 0 {
-        return Checked::Refused(Refusal::NoEntries);
+        return Err(Refusal::NoEntries);
     }
     let m = numbers::le_u16(page, 6);
     if m == 0 {
-        return Checked::Refused(Refusal::CompressedCount);
+        return Err(Refusal::CompressedCount);
     }
     if n < m {
-        return Checked::Refused(Refusal::CompressedCount);
+        return Err(Refusal::CompressedCount);
     }
     let q = numbers::le_u16(page, 8);
     if 256 < q {
-        return Checked::Refused(Refusal::PrefixLength);
+        return Err(Refusal::PrefixLength);
     }
     let end = cell(page, n - 1);
     if !body_fits(n, q, end) {
-        return Checked::Refused(Refusal::BodyTooLong);
+        return Err(Refusal::BodyTooLong);
     }
     let bits = q + end;
     let number = numbers::le_u32(page, 0);
-    Checked::Page(Header {
+    Ok(Header {
         number,
         n,
         m,
@@ -147,12 +131,10 @@ fn sized(page: &[u8]) -> Checked
 }
 
 // A check of a page but for the order of its keys: the header, or the first of 1 to 7 that holds.
-pub fn shaped(page: &[u8]) -> Checked
+pub fn shaped(page: &[u8]) -> Result<Header, Refusal>
     ensures answer { checked_answer result ≡ check_shape page.now }
     ensures told { Shaping page.now result }
 {
-    match sized(page) {
-        Checked::Refused(r) => Checked::Refused(r),
-        Checked::Page(h) => fitted(page, h),
-    }
+    let h = sized(page)?;
+    fitted(page, h)
 }

@@ -1,5 +1,5 @@
 -- Laws of the size formulas (format's specs/Sizes.antt), in the steps in which 64-bit numbers answer them.
--- In order: a difference; products and quotients.
+-- In order: a difference; a size that is checked; products and quotients.
 -- Assumes nothing.
 use mathlib.Core.Path.{◌≡◌, sym, ap, ◌∙◌}
 use Prim.Native.Nat.{ℕ, ◌+◌, ◌-◌, ◌*◌, ◌/◌, ◌^◌, ◌≤◌, ◌<◌}
@@ -9,6 +9,11 @@ use native.Mathlib.Decide.{dec_le}
 use Rattle.format.specs.Answer.{Answer}
 use Rattle.format.specs.Sizes.{difference}
 use Rattle.facts.proofs.SizesLaws.{difference-value, difference_below, difference_past}
+use Rattle.std.specs.Prelude.{Option, Some, None, Result, SomeIff}
+use Rattle.std.specs.Option.{ok_or}
+use Rattle.format.specs.declared.refusal.Refusal.{Refusal}
+use Rattle.format.specs.declared.refusal.Refusal.TheVariants.{Unrepresentable}
+use Rattle.sizes.specs.Sizes.{size_answer}
 
 -- ---- a difference
 
@@ -30,6 +35,19 @@ diff_same plus minus r e = go (dec_le (2 ^ 64) r)
     go : Dec (2 ^ 64 ≤ r) → difference r 0 ≡ difference plus minus
     go (yes h) = sym (diff_high r 0 (omega arith)) ∙ diff_high plus minus (omega arith)
     go (no h) = sym (diff_is r 0 r (omega arith) (omega (arith, h))) ∙ diff_is plus minus r e (omega (arith, h))
+
+-- ---- a size that is checked
+
+-- it is there exactly where it fits, and else 19 is the answer
+pub size_checked : (r : Result ℕ Refusal) (x : Option ℕ) (s plus minus : ℕ) → r ≡ ok_or x Unrepresentable
+    → SomeIff x (s < 2 ^ 64) s → s + minus ≡ plus → size_answer r ≡ difference plus minus
+size_checked r None s plus minus q u e = ap size_answer q ∙ diff_high plus minus (omega (arith, u))
+size_checked r (Some y) s plus minus q u e =
+    ap size_answer q ∙ diff_is plus minus y (omega (arith, u.1)) (omega (arith, u.0, u.1))
+
+-- one that does not fit keeps a greater one from fitting
+pub size_past : (s plus minus : ℕ) → (s < 2 ^ 64 → ⊥) → s + minus ≤ plus → Answer.Refused 19 ≡ difference plus minus
+size_past s plus minus u e = diff_high plus minus (omega (arith, u))
 
 -- ---- products and quotients
 

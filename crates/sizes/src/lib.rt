@@ -9,55 +9,30 @@ ghost use Rattle.sizes.specs.Sizes.{size_answer};
 
 use format::refusal::Refusal;
 
-// What a size formula answers: the size, or 19.
-#[derive(Clone, Copy)]
-pub enum Size {
-    Is(usize),
-    Refused(Refusal),
-}
-
-// The largest number.
-const MAX: usize = 0xffff_ffff_ffff_ffff;
-
-// a * b.
-fn product(a: usize, b: usize) -> Size
-    ensures answer { size_answer result ≡ difference (a * b) 0 }
-{
-    if b == 0 {
-        return Size::Is(0);
-    }
-    if MAX / b < a {
-        return Size::Refused(Refusal::Unrepresentable);
-    }
-    Size::Is(a * b)
-}
-
 // a + b + c.
-fn total(a: usize, b: usize, c: usize) -> Size
+fn total(a: usize, b: usize, c: usize) -> Result<usize, Refusal>
     ensures answer { size_answer result ≡ difference (a + b + c) 0 }
 {
-    if MAX - a < b {
-        return Size::Refused(Refusal::Unrepresentable);
-    }
-    if MAX - (a + b) < c {
-        return Size::Refused(Refusal::Unrepresentable);
-    }
-    Size::Is(a + b + c)
+    let Some(two) = a.checked_add(b) else {
+        return Err(Refusal::Unrepresentable);
+    };
+    two.checked_add(c).ok_or(Refusal::Unrepresentable)
 }
 
 // Body bytes: six for each of n entries, and the bits of prefix and stored separators rounded up to
 // bytes. Refused with 19 past 64 bits.
-pub fn body_size(prefix_len: usize, total_separator_lengths: usize, n: usize) -> Size
+pub fn body_size(
+    prefix_len: usize,
+    total_separator_lengths: usize,
+    n: usize,
+) -> Result<usize, Refusal>
     ensures answer { size_answer result ≡ body_size prefix_len total_separator_lengths n }
 {
     let bytes = numbers::bytes_for(prefix_len, total_separator_lengths);
-    if MAX / 6 < n {
-        return Size::Refused(Refusal::Unrepresentable);
-    }
-    if MAX - 6 * n < bytes {
-        return Size::Refused(Refusal::Unrepresentable);
-    }
-    Size::Is(6 * n + bytes)
+    let Some(cells) = n.checked_mul(6) else {
+        return Err(Refusal::Unrepresentable);
+    };
+    cells.checked_add(bytes).ok_or(Refusal::Unrepresentable)
 }
 
 // Whole lengths from the stored ones of n entries: each has prefix_len bits more, but the first no
@@ -67,25 +42,24 @@ pub fn uncompressed_separator_range_size(
     compressed_lengths: usize,
     n: usize,
     first_len: usize,
-) -> Size
+) -> Result<usize, Refusal>
     ensures answer { size_answer result
         ≡ whole_from_stored prefix_len compressed_lengths n first_len }
 {
-    let kept = numbers::least(prefix_len, first_len);
+    let kept = prefix_len.min(first_len);
     if n == 0 {
-        if compressed_lengths < prefix_len - kept {
-            return Size::Refused(Refusal::Unrepresentable);
-        }
-        return Size::Is(compressed_lengths - (prefix_len - kept));
+        return compressed_lengths
+            .checked_sub(prefix_len - kept)
+            .ok_or(Refusal::Unrepresentable);
     }
-    match product(prefix_len, n - 1) {
-        Size::Refused(_) => Size::Refused(Refusal::Unrepresentable),
-        Size::Is(p) => total(compressed_lengths, p, kept),
-    }
+    let Some(shared) = prefix_len.checked_mul(n - 1) else {
+        return Err(Refusal::Unrepresentable);
+    };
+    total(compressed_lengths, shared, kept)
 }
 
 // head + others, less so many times q.
-fn reduced(head: usize, others: usize, times: usize, q: usize) -> Size
+fn reduced(head: usize, others: usize, times: usize, q: usize) -> Result<usize, Refusal>
     requires { (q ≡ 0 → ⊥) × (head + q < 2 ^ 64) }
     ensures answer { size_answer result ≡ difference (head + others) (times * q) }
 {
@@ -97,9 +71,9 @@ fn reduced(head: usize, others: usize, times: usize, q: usize) -> Size
     let more = times - whole;
     let have = head + others % q;
     if have / q < more {
-        return Size::Refused(Refusal::Unrepresentable);
+        return Err(Refusal::Unrepresentable);
     }
-    Size::Is(have - more * q)
+    Ok(have - more * q)
 }
 
 // Stored lengths from whole ones: the first loses prefix_len bits, or all it has, and each of the
@@ -109,22 +83,17 @@ pub fn compressed_separator_range_size(
     prefix_compressed_items: usize,
     pre_compression_size_sum: usize,
     prefix_len: usize,
-) -> Size
+) -> Result<usize, Refusal>
     ensures answer { size_answer result
         ≡ stored_from_whole first_separator_length prefix_compressed_items
         pre_compression_size_sum prefix_len }
 {
-    if prefix_compressed_items == 0 {
-        return Size::Refused(Refusal::Unrepresentable);
-    }
-    let head = numbers::over(first_separator_length, prefix_len);
+    let Some(others) = prefix_compressed_items.checked_sub(1) else {
+        return Err(Refusal::Unrepresentable);
+    };
+    let head = first_separator_length.saturating_sub(prefix_len);
     if prefix_len == 0 {
         return total(head, pre_compression_size_sum, 0);
     }
-    reduced(
-        head,
-        pre_compression_size_sum,
-        prefix_compressed_items - 1,
-        prefix_len,
-    )
+    reduced(head, pre_compression_size_sum, others, prefix_len)
 }

@@ -1,6 +1,5 @@
 -- `shape::fitted` meets its contract. The loop's invariant: none of the first i end offsets falls, `found` tells
--- whether one of the first i entries does not fit a key, and `before` is where the next separator starts. The measure is
--- what is left of n.
+-- whether one of the first i entries does not fit a key, and `before` is where the next separator starts.
 -- Assumes nothing.
 use mathlib.Core.Bool.{Bool, true, false, cond, ◌||◌}
 use mathlib.Core.List.{List}
@@ -85,12 +84,6 @@ overflow_add-prefix_bits c = search (rules, laws)
 
 pub misfits-found-requires : goal.misfits-found-requires
 misfits-found-requires c = search (rules, laws)
-
-pub overflow_add-i : goal.overflow_add-i
-overflow_add-i c = search (rules, laws)
-
-pub loop-i-smaller : goal.loop-i-smaller
-loop-i-smaller c = search (rules, laws)
 
 pub loop-i-preserved : goal.loop-i-preserved
 loop-i-preserved c = search (rules, laws)

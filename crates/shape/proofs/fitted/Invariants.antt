@@ -1,11 +1,10 @@
 -- `shape::fitted` meets its contract. The loop's invariant: none of the first i end offsets falls, `found` tells
--- whether one of the first i entries does not fit a key, and `before` is where the next separator starts. The measure is
--- what is left of n.
+-- whether one of the first i entries does not fit a key, and `before` is where the next separator starts.
 -- Assumes nothing.
 use mathlib.Core.Bool.{Bool, false}
 use mathlib.Core.List.{List}
 use mathlib.Core.Path.{◌≡◌}
-use Prim.Native.Nat.{ℕ, ◌-◌, ◌≤◌}
+use Prim.Native.Nat.{ℕ}
 use Rattle.format.specs.Page.{start_of}
 use Rattle.shape.specs.Shape.{falling, misfit}
 use Rattle.shape.proofs.fitted.Given as goal
@@ -16,7 +15,4 @@ pub record Fitting (p : List ℕ) (i b : ℕ) (f : Bool) : Type 0 where
   pub start : b ≡ start_of p i
 
 abbrev pub invariant-loop-i : goal.invariant-loop-i
-invariant-loop-i l = (l.i ≤ l.n) × Fitting l.page l.i l.before l.found
-
-abbrev pub decreases-loop-i : goal.decreases-loop-i
-decreases-loop-i l = l.n - l.i
+invariant-loop-i l = Fitting l.page l.i l.before l.found

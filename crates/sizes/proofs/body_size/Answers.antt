@@ -1,52 +1,31 @@
--- `sizes::body_size` meets its contract: what 6n leaves of 64 bits is compared with the bytes of the bits.
+-- `sizes::body_size` meets its contract: six for each entry, and the bytes of the bits, where both fit.
 -- Assumes nothing.
-use mathlib.Core.Path.{◌≡◌}
-use Prim.Native.Nat.{ℕ, ◌+◌, ◌-◌, ◌*◌, ◌/◌, ◌≤◌, ◌<◌}
+use mathlib.Core.Path.{◌≡◌, ◌∙◌}
+use Prim.Native.Nat.{ℕ, ◌+◌, ◌*◌}
 use native.Mathlib.Omega.{arith}
-use Rattle.format.specs.Answer.{Answer}
 use Rattle.format.specs.Bits.{bytes_for}
 use Rattle.format.specs.Page.{body_bytes}
-use Rattle.format.specs.Sizes.{body_size}
-use Rattle.sizes.proofs.SizesLaws.{diff_is, diff_high}
-use Rattle.std.proofs.Common.{rules}
+use Rattle.format.specs.Sizes.{difference, body_size}
+use Rattle.sizes.proofs.SizesLaws.{size_checked, size_past}
 use Rattle.sizes.proofs.body_size.Goals as goal
 
-module _ (q sum n : ℕ) where
-  many : 18446744073709551615 / 6 < n → Answer.Refused 19 ≡ body_size q sum n
-  unfolding body_size body_bytes
-  many h = diff_high (6 * n + bytes_for (q + sum)) 0 (omega arith)
+size_is : (q sum n b : ℕ) → b ≡ bytes_for (q + sum) → difference (n * 6 + b) 0 ≡ body_size q sum n
+unfolding body_size body_bytes
+size_is q sum n b e = rw e (let x : n * 6 ≡ 6 * n = omega arith in rw x)
 
-  module _ (b : ℕ) (eb : b ≡ bytes_for (q + sum)) (l : n ≤ 18446744073709551615 / 6) where
-    past : 18446744073709551615 - 6 * n < b → Answer.Refused 19 ≡ body_size q sum n
-    unfolding body_size body_bytes bytes_for
-    past h = diff_high (6 * n + (q + sum + 7) / 8) 0 (omega arith)
-
-    is : b ≤ 18446744073709551615 - 6 * n → Answer.Value (6 * n + b) ≡ body_size q sum n
-    unfolding body_size body_bytes bytes_for
-    is h = diff_is (6 * n + (q + sum + 7) / 8) 0 (6 * n + b) (omega arith) (omega arith)
-
-ruleset laws = (many, past, is)
-
-pub bytes_for-bytes-requires : goal.bytes_for-bytes-requires
-bytes_for-bytes-requires c = search (rules, laws)
-
-pub returns-then-n : goal.returns-then-n
-returns-then-n c = search (rules, laws)
-
-pub overflow_mul-n : goal.overflow_mul-n
-overflow_mul-n c = search (rules, laws)
-
-pub overflow_sub-n : goal.overflow_sub-n
-overflow_sub-n c = search (rules, laws)
-
-pub returns-then-n-bytes : goal.returns-then-n-bytes
-returns-then-n-bytes c = search (rules, laws)
-
-pub overflow_mul-result : goal.overflow_mul-result
-overflow_mul-result c = search (rules, laws)
-
-pub overflow_add-result : goal.overflow_add-result
-overflow_add-result c = search (rules, laws)
+pub returns-in_default : goal.returns-in_default
+returns-in_default c =
+    record {
+      answer =
+          size_past (c.args.n * 6) (c.args.n * 6 + c.bytes_for-bytes.result) 0 c.in_default.ensures (omega arith)
+          ∙ size_is _ _ _ _ c.bytes_for-bytes.ensures.answer;
+    }
 
 pub returns : goal.returns
-returns c = search (rules, laws)
+returns c =
+    record {
+      answer =
+          size_checked _ c.checked_add.result (c.in-Some.cells + c.bytes_for-bytes.result) (c.args.n * 6 + c.bytes_for-bytes.result) 0
+          c.ok_or.ensures.value c.checked_add.ensures (omega (arith, c.in-Some.ensures))
+          ∙ size_is _ _ _ _ c.bytes_for-bytes.ensures.answer;
+    }

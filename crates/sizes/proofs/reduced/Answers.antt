@@ -7,7 +7,8 @@ use native.Mathlib.Nat.{div-add-mod', add-mul, mod-lt}
 use native.Mathlib.Omega.{arith}
 use Rattle.format.specs.Answer.{Answer}
 use Rattle.format.specs.Sizes.{difference}
-use Rattle.sizes.specs.declared.Size.{Size}
+use Rattle.std.specs.Prelude.{Result}
+use Rattle.format.specs.declared.refusal.Refusal.{Refusal}
 use Rattle.sizes.specs.Sizes.{size_answer}
 use Rattle.sizes.proofs.SizesLaws.{diff_is, diff_low, diff_same, times_le, times_past}
 use Rattle.std.proofs.Common.{rules}
@@ -20,7 +21,7 @@ module _ (head others times q : ℕ) (z : q ≡ 0 → ⊥) where
   few_fits : others < 2 ^ 64 → times ≤ others / q → times * q < 2 ^ 64
   few_fits k h = omega (arith, few_le h)
 
-  few : times ≤ others / q → (r : Size) → size_answer r ≡ difference (head + (others - times * q) + 0) 0
+  few : times ≤ others / q → (r : Result ℕ Refusal) → size_answer r ≡ difference (head + (others - times * q) + 0) 0
       → size_answer r ≡ difference (head + others) (times * q)
   few h r e =
       e ∙ diff_same (head + others) (times * q) (head + (others - times * q) + 0) (rest (times * q) (few_le h))
