@@ -70,26 +70,11 @@ ruleset laws = (begin, falls, more, misfitting, fits)
 pub loop-i-init : goal.loop-i-init
 loop-i-init c = search (rules, laws)
 
-pub cell-end-requires : goal.cell-end-requires
-cell-end-requires c = search (rules, laws)
-
 pub returns-then-end-before : goal.returns-then-end-before
 returns-then-end-before c = search (rules, laws)
-
-pub prefix_bits-requires : goal.prefix_bits-requires
-prefix_bits-requires c = search (rules, laws)
-
-pub overflow_add-prefix_bits : goal.overflow_add-prefix_bits
-overflow_add-prefix_bits c = search (rules, laws)
-
-pub misfits-found-requires : goal.misfits-found-requires
-misfits-found-requires c = search (rules, laws)
 
 pub loop-i-preserved : goal.loop-i-preserved
 loop-i-preserved c = search (rules, laws)
 
 pub returns-then-found : goal.returns-then-found
 returns-then-found c = search (rules, laws)
-
-pub returns : goal.returns
-returns c = search (rules, laws)
