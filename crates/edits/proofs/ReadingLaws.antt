@@ -60,7 +60,41 @@ use Rattle.edits.specs.declared.edit.Edit.TheVariants.{
   KeepChunk as CodeKeepChunk,
 }
 use Rattle.edits.specs.declared.record.Head.{Head}
-use Rattle.edits.specs.Record.{edit_meant, formed_in, count_of, kind_at, edit_at, span_at, HeadOf, inside_head}
+use Rattle.edits.specs.declared.record.Kind.{Kind}
+use Rattle.edits.specs.declared.record.Kind.TheVariants.{Insert as KindInsert, Update as KindUpdate, KeepChunk as KindKeepChunk, Malformed}
+use Rattle.edits.specs.Record.{edit_meant, formed_in, count_of, kind_at, edit_at, span_at, HeadOf, inside_head, kind_number}
+
+-- ---- a kind and its number
+
+module _ (k : Kind) where
+  pub is_insert : k ≡ KindInsert → kind_number k ≡ 0
+  is_insert e = ap kind_number e
+
+  pub is_update : k ≡ KindUpdate → kind_number k ≡ 1
+  is_update e = ap kind_number e
+
+  pub is_malformed : k ≡ Malformed → kind_number k ≡ 3
+  is_malformed e = ap kind_number e
+
+pub no_insert : (k : Kind) → (k ≡ KindInsert → ⊥) → kind_number k ≡ 0 → ⊥
+no_insert KindInsert n e = n refl
+no_insert KindUpdate n e = omega arith
+no_insert KindKeepChunk n e = omega arith
+no_insert Malformed n e = omega arith
+
+pub no_update : (k : Kind) → (k ≡ KindUpdate → ⊥) → kind_number k ≡ 1 → ⊥
+no_update KindInsert n e = omega arith
+no_update KindUpdate n e = n refl
+no_update KindKeepChunk n e = omega arith
+no_update Malformed n e = omega arith
+
+pub well_formed : (k : Kind) → (k ≡ Malformed → ⊥) → kind_number k ≡ 3 → ⊥
+well_formed KindInsert n e = omega arith
+well_formed KindUpdate n e = omega arith
+well_formed KindKeepChunk n e = omega arith
+well_formed Malformed n e = n refl
+
+pub ruleset kinds = (is_insert, is_update, is_malformed, no_insert, no_update, well_formed)
 
 -- ---- one edit
 
@@ -224,20 +258,22 @@ forming_start r n h e =
     let q : count_of r ≡ n - 0 = omega arith in
     ap formed_in (record_edits r h) ∙ ap (λ (k : ℕ). formed_in (read_edits k (drop 10 (bits_of r)))) q
 
-module _ (r : List ℕ) (n i p w : ℕ) (f : Forming r n i p) (h : i < n) (e : w ≡ span_at (drop p (bits_of r))) where
+module _ (r : List ℕ) (n i p : ℕ) (f : Forming r n i p) (h : i < n) where
   one_more : n - i ≡ suc (n - (i + 1))
   one_more = omega arith
 
-  pub forming_bad : w ≡ 0 → false ≡ formed_in (read_record r)
+  pub forming_bad : (0 < span_at (drop p (bits_of r)) → ⊥) → false ≡ formed_in (read_record r)
   unfolding Forming
   forming_bad z =
       sym (f ∙ ap (λ (k : ℕ). formed_in (read_edits k (drop p (bits_of r)))) one_more
-      ∙ span_none (n - (i + 1)) (drop p (bits_of r)) (sym e ∙ z))
+      ∙ span_none (n - (i + 1)) (drop p (bits_of r)) (omega (arith, z)))
 
-  pub forming_next : (w ≡ 0 → ⊥) → Forming r n (i + 1) (p + w)
+  pub forming_next : (w : ℕ) → (0 < span_at (drop p (bits_of r))) × (w ≡ span_at (drop p (bits_of r)))
+      → Forming r n (i + 1) (p + w)
   unfolding Forming
-  forming_next z =
-      let s : span_at (drop p (bits_of r)) ≡ 0 → ⊥ = λ q. z (e ∙ q) in
+  forming_next w z =
+      let e : w ≡ span_at (drop p (bits_of r)) = z.1 in
+      let s : span_at (drop p (bits_of r)) ≡ 0 → ⊥ = λ q. omega (arith, z.0) in
       f ∙ ap (λ (k : ℕ). formed_in (read_edits k (drop p (bits_of r)))) one_more
       ∙ span-some (n - (i + 1)) (drop p (bits_of r)) s
       ∙ ap (λ (k : ℕ). formed_in (read_edits (n - (i + 1)) (drop k (drop p (bits_of r))))) (sym e)
@@ -292,24 +328,25 @@ module _ (s : List ℕ) (p : ℕ) where
   at_zero x e = e ∙ ap (λ (k : ℕ). fill 64 (drop k (bits_of s))) (add-zero p)
 
   pub head_is : (x : ℕ) → bits 64 x ≡ fill 64 (drop (p + 0) (bits_of s)) → Fits w64 x
+      → (k : Kind) → kind_number k ≡ x / 2 ^ 62
       → HeadOf (drop p (bits_of s)) (record {
-        kind = x / 2 ^ 62;
+        kind = k;
         place = x / 2 ^ 52 % 1024;
         end = x / 2 ^ 42 % 1024;
         pointer = x / 2 ^ 20 % 2 ^ 32;
       })
   unfolding kind_at
-  head_is x e h =
+  head_is x e h k ek =
       let d : List ℕ = drop p (bits_of s) in
       let q : bits 64 x ≡ fill 64 d = at_zero x e in
       record {
-        kind = omega (arith, field x 2 0 d q (omega arith), h.fits);
+        kind = omega (arith, ek, field x 2 0 d q (omega arith), h.fits);
         place = sym (field x 10 2 d q (omega arith));
         end = sym (field x 10 12 d q (omega arith));
         pointer = sym (field x 32 12 d q (omega arith));
       }
 
-  pub inserted : (h : Head) (k : Key) (x : ℕ) → HeadOf (drop p (bits_of s)) h → h.kind ≡ 0
+  pub inserted : (h : Head) (k : Key) (x : ℕ) → HeadOf (drop p (bits_of s)) h → kind_number h.kind ≡ 0
       → key_bits k ≡ fill 256 (drop (p + 2) (bits_of s)) → bits 64 x ≡ fill 64 (drop (p + 258) (bits_of s)) → Fits w64 x
       → Insert (key_bits k) (x / 2 ^ 32) ≡ edit_at (drop p (bits_of s))
   inserted h k x o z ek ex f =
@@ -320,12 +357,12 @@ module _ (s : List ℕ) (p : ℕ) where
       ∙ ap₂ Insert (ap (fill 256) (drop-drop 2 p (bits_of s)) ∙ sym ek)
       (ap (λ (l : List ℕ). value (fill 32 l)) (drop-drop 258 p (bits_of s)) ∙ v ∙ mod-eq_of_lt (omega (arith, f.fits))))
 
-  pub updated : (h : Head) → HeadOf (drop p (bits_of s)) h → h.kind ≡ 1
+  pub updated : (h : Head) → HeadOf (drop p (bits_of s)) h → kind_number h.kind ≡ 1
       → Update h.place h.pointer ≡ edit_at (drop p (bits_of s))
   updated h o z =
       sym (edit_at_update (drop p (bits_of s)) (sym o.kind ∙ z) ∙ ap₂ Update (sym o.place) (sym o.pointer))
 
-  pub kept : (h : Head) → HeadOf (drop p (bits_of s)) h → (h.kind ≡ 0 → ⊥) → (h.kind ≡ 1 → ⊥)
+  pub kept : (h : Head) → HeadOf (drop p (bits_of s)) h → (kind_number h.kind ≡ 0 → ⊥) → (kind_number h.kind ≡ 1 → ⊥)
       → Keep h.place h.end ≡ edit_at (drop p (bits_of s))
   kept h o z y =
       sym (edit_at-keep (drop p (bits_of s)) (λ e. z (o.kind ∙ e)) (λ e. y (o.kind ∙ e))
@@ -427,29 +464,30 @@ module _ (s : List ℕ) (p : ℕ) where
   left : length (drop p (bits_of s)) ≡ 8 * length s - p
   left = omega (arith, length-drop p (bits_of s), length-bits_of s)
 
-  pub short_is : 8 * length s - p < 2 → 0 ≡ span_at (drop p (bits_of s))
-  short_is l = sym (span_short (drop p (bits_of s)) (omega (arith, left)))
+  pub short_is : 8 * length s - p < 2 → 0 < span_at (drop p (bits_of s)) → ⊥
+  short_is l z = omega (arith, span_short (drop p (bits_of s)) (omega (arith, left)))
 
   module _ (h : Head) (o : HeadOf (drop p (bits_of s)) h) (two : 2 ≤ 8 * length s - p) where
-    pub three_is : h.kind ≡ 3 → 0 ≡ span_at (drop p (bits_of s))
-    three_is e = sym (span_three (drop p (bits_of s)) (sym o.kind ∙ e) (omega (arith, left)))
+    pub three_is : kind_number h.kind ≡ 3 → 0 < span_at (drop p (bits_of s)) → ⊥
+    three_is e z = omega (arith, span_three (drop p (bits_of s)) (sym o.kind ∙ e) (omega (arith, left)))
 
-    module _ (three : h.kind ≡ 3 → ⊥) (f : ℕ) (ef : f ≡ field_bits h.kind) where
+    module _ (three : kind_number h.kind ≡ 3 → ⊥) (f : ℕ) (ef : f ≡ field_bits (kind_number h.kind)) where
       f_is : f ≡ field_bits (kind_at (drop p (bits_of s)))
       f_is = ef ∙ ap field_bits o.kind
 
-      pub lacks_is : 8 * length s - p < 2 + f → 0 ≡ span_at (drop p (bits_of s))
-      lacks_is l =
-          sym (span_lacks (drop p (bits_of s)) (omega (arith, left, f_is)) (λ e. three (o.kind ∙ e))
-          (omega (arith, left)))
-
-      pub whole_is : 2 + f ≤ 8 * length s - p → 2 + f ≡ span_at (drop p (bits_of s))
-      whole_is l =
+      pub lacks_is : 8 * length s - p < 2 + f → 0 < span_at (drop p (bits_of s)) → ⊥
+      lacks_is l z =
           omega (
             arith,
-            f_is,
-            span-whole (drop p (bits_of s)) (omega (arith, left, f_is)) (λ e. three (o.kind ∙ e)) (omega (arith, left)),
+            span_lacks (drop p (bits_of s)) (omega (arith, left, f_is)) (λ e. three (o.kind ∙ e)) (omega (arith, left)),
           )
+
+      pub whole_is : 2 + f ≤ 8 * length s - p
+          → (0 < span_at (drop p (bits_of s))) × (2 + f ≡ span_at (drop p (bits_of s)))
+      whole_is l =
+          let e : span_at (drop p (bits_of s)) ≡ 2 + field_bits (kind_at (drop p (bits_of s))) =
+          span-whole (drop p (bits_of s)) (omega (arith, left, f_is)) (λ e. three (o.kind ∙ e)) (omega (arith, left)) in
+          (omega (arith, f_is), omega (arith, f_is))
 
 -- ---- padding
 
@@ -490,21 +528,21 @@ pad_is s p x h e f =
 -- ---- whether an edit's positions are inside
 
 module _ (n : ℕ) (h : Head) where
-  pub inside_insert : h.kind ≡ 0 → true ≡ inside_head n h
+  pub inside_insert : kind_number h.kind ≡ 0 → true ≡ inside_head n h
   unfolding inside_head
-  inside_insert e = rw (eq-eqb h.kind 0 e)
+  inside_insert e = rw (eq-eqb (kind_number h.kind) 0 e)
 
-  pub inside_update : (h.kind ≡ 0 → ⊥) → h.kind ≡ 1 → ltb h.place n ≡ inside_head n h
+  pub inside_update : (kind_number h.kind ≡ 0 → ⊥) → kind_number h.kind ≡ 1 → ltb h.place n ≡ inside_head n h
   unfolding inside_head
-  inside_update z e = rw (ne_eqb h.kind 0 z, eq-eqb h.kind 1 e)
+  inside_update z e = rw (ne_eqb (kind_number h.kind) 0 z, eq-eqb (kind_number h.kind) 1 e)
 
-  pub inside-keep : (h.kind ≡ 0 → ⊥) → (h.kind ≡ 1 → ⊥) → h.place < h.end → leb h.end n ≡ inside_head n h
+  pub inside-keep : (kind_number h.kind ≡ 0 → ⊥) → (kind_number h.kind ≡ 1 → ⊥) → h.place < h.end → leb h.end n ≡ inside_head n h
   unfolding inside_head
-  inside-keep z y l = rw (ne_eqb h.kind 0 z, ne_eqb h.kind 1 y, lt-ltb h.place h.end l)
+  inside-keep z y l = rw (ne_eqb (kind_number h.kind) 0 z, ne_eqb (kind_number h.kind) 1 y, lt-ltb h.place h.end l)
 
-  pub inside_empty : (h.kind ≡ 0 → ⊥) → (h.kind ≡ 1 → ⊥) → h.end ≤ h.place → false ≡ inside_head n h
+  pub inside_empty : (kind_number h.kind ≡ 0 → ⊥) → (kind_number h.kind ≡ 1 → ⊥) → h.end ≤ h.place → ltb h.place h.end ≡ inside_head n h
   unfolding inside_head
-  inside_empty z y l = rw (ne_eqb h.kind 0 z, ne_eqb h.kind 1 y, le-ltb h.place h.end l)
+  inside_empty z y l = rw (ne_eqb (kind_number h.kind) 0 z, ne_eqb (kind_number h.kind) 1 y, le-ltb h.place h.end l)
 
 not-not : (t : Bool) → not (not t) ≡ t
 not-not true = refl
@@ -526,20 +564,20 @@ keep-inside n s e = go (ltb s e) refl
 
 inside_head-outside : (n : ℕ) (d : List ℕ) (h : Head) → HeadOf d h → inside_head n h ≡ not (outside n (edit_at d))
 unfolding inside_head outside
-inside_head-outside n d h o = go (eqb h.kind 0) (eqb h.kind 1) refl refl
+inside_head-outside n d h o = go (eqb (kind_number h.kind) 0) (eqb (kind_number h.kind) 1) refl refl
   where
-    go : (s t : Bool) → eqb h.kind 0 ≡ s → eqb h.kind 1 ≡ t → inside_head n h ≡ not (outside n (edit_at d))
+    go : (s t : Bool) → eqb (kind_number h.kind) 0 ≡ s → eqb (kind_number h.kind) 1 ≡ t → inside_head n h ≡ not (outside n (edit_at d))
     go true t e f =
-        sym (inside_insert n h (eqb-true h.kind 0 e))
-        ∙ ap (λ (x : Edit). not (outside n x)) (sym (edit_at_insert d (sym o.kind ∙ eqb-true h.kind 0 e)))
+        sym (inside_insert n h (eqb-true (kind_number h.kind) 0 e))
+        ∙ ap (λ (x : Edit). not (outside n x)) (sym (edit_at_insert d (sym o.kind ∙ eqb-true (kind_number h.kind) 0 e)))
     go false true e f =
-        sym (inside_update n h (eqb-false h.kind 0 e) (eqb-true h.kind 1 f)) ∙ not-leb n h.place
+        sym (inside_update n h (eqb-false (kind_number h.kind) 0 e) (eqb-true (kind_number h.kind) 1 f)) ∙ not-leb n h.place
         ∙ ap (λ (x : ℕ). not (leb n x)) o.place
-        ∙ ap (λ (x : Edit). not (outside n x)) (sym (edit_at_update d (sym o.kind ∙ eqb-true h.kind 1 f)))
+        ∙ ap (λ (x : Edit). not (outside n x)) (sym (edit_at_update d (sym o.kind ∙ eqb-true (kind_number h.kind) 1 f)))
     go false false e f =
         rw (e, f) (keep-inside n h.place h.end ∙ ap₂ (λ (x y : ℕ). not (leb y x || ltb n y)) o.place o.end
         ∙ ap (λ (x : Edit). not (outside n x))
-        (sym (edit_at-keep d (λ q. eqb-false h.kind 0 e (o.kind ∙ q)) (λ q. eqb-false h.kind 1 f (o.kind ∙ q)))))
+        (sym (edit_at-keep d (λ q. eqb-false (kind_number h.kind) 0 e (o.kind ∙ q)) (λ q. eqb-false (kind_number h.kind) 1 f (o.kind ∙ q)))))
 
 -- ---- the edits still ahead
 
@@ -687,7 +725,7 @@ module _ (s : List ℕ) (n k i p : ℕ) (f : Placing s n k i p) (l : i < k) (h :
       not-false (outside n (edit_at (drop p (bits_of s)))) (sym is_inside ∙ not-true b z) in
       sym (ap not (one_edit (2 + field_bits (kind_at (drop p (bits_of s)))) refl) ∙ rw t)
 
-  pub placing_next : not b ≡ false → (w : ℕ) → w ≡ field_bits h.kind → Placing s n k (i + 1) (p + (2 + w))
+  pub placing_next : not b ≡ false → (w : ℕ) → w ≡ field_bits (kind_number h.kind) → Placing s n k (i + 1) (p + (2 + w))
   placing_next z w ew =
       let t : outside n (edit_at (drop p (bits_of s))) ≡ false =
       not-true (outside n (edit_at (drop p (bits_of s)))) (sym is_inside ∙ not-false b z) in

@@ -1,6 +1,6 @@
 -- The edit record as the code reads it, edit by edit, with zeros where bits are lacking, and its refusals. Document
 -- 01, "Edit record", and the refusals 10 to 12.
--- In order: edit_meant reach_of · formed_in count_of read_tests · kind_at edit_at span_at · HeadOf inside_head.
+-- In order: edit_meant reach_of · formed_in count_of read_tests · kind_at edit_at span_at · kind_number HeadOf inside_head.
 -- Assumes nothing.
 use Rattle.std.specs.Prelude.{Bool, true, false, cond, not, ◌||◌, List, [], ◌∷◌, ◌≡◌, ℕ, ◌+◌, eqb, ltb, leb, length, drop}
 use Rattle.std.proofs.Math.Option.{Option}
@@ -17,6 +17,8 @@ use Rattle.edits.specs.declared.edit.Edit.TheVariants.{
   KeepChunk as CodeKeepChunk,
 }
 use Rattle.edits.specs.declared.record.Head.{Head}
+use Rattle.edits.specs.declared.record.Kind.{Kind}
+use Rattle.edits.specs.declared.record.Kind.TheVariants.{Insert as KindInsert, Update as KindUpdate, KeepChunk as KindKeepChunk, Malformed}
 
 -- The edit that the code's enum holds.
 abbrev pub edit_meant : CodeEdit → Edit
@@ -64,9 +66,16 @@ span_at bs =
     let size : ℕ = 2 + field_bits (kind_at bs) in
     cond (ltb (length bs) 2 || eqb (kind_at bs) 3 || ltb (length bs) size) 0 size
 
+-- The number of a kind: 3 is malformed.
+abbrev pub kind_number : Kind → ℕ
+kind_number KindInsert = 0
+kind_number KindUpdate = 1
+kind_number KindKeepChunk = 2
+kind_number Malformed = 3
+
 -- h has the fields in the first 44 bits.
 pub record HeadOf (bs : List ℕ) (h : Head) : Type 0 where
-  pub kind : h.kind ≡ kind_at bs
+  pub kind : kind_number h.kind ≡ kind_at bs
   pub place : h.place ≡ value (fill 10 (drop 2 bs))
   pub end : h.end ≡ value (fill 10 (drop 12 bs))
   pub pointer : h.pointer ≡ value (fill 32 (drop 12 bs))
@@ -74,6 +83,6 @@ pub record HeadOf (bs : List ℕ) (h : Head) : Type 0 where
 -- The positions in h lie in a base of n entries.
 unfoldable pub inside_head : ℕ → Head → Bool
 inside_head n h =
-    cond (eqb h.kind 0) true
-    (cond (eqb h.kind 1) (ltb h.place n)
+    cond (eqb (kind_number h.kind) 0) true
+    (cond (eqb (kind_number h.kind) 1) (ltb h.place n)
     (cond (ltb h.place h.end) (leb h.end n) false))

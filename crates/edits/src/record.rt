@@ -9,7 +9,7 @@
 //                 3  malformed
 //       ..    zero bits to the byte's end, and no byte more
 // What it means: format's specs/Edit.antt, and specs/Record.antt.
-ghost use Rattle.std.specs.Prelude.{true, not, ◌≡◌, ◌+◌, ◌*◌, ◌≤◌, ◌<◌, length, drop};
+ghost use Rattle.std.specs.Prelude.{true, not, ◌≡◌, ◌+◌, ◌*◌, ◌≤◌, ◌<◌, SomeIff, IfSome, length, drop};
 ghost use Rattle.format.specs.Answer.{first};
 ghost use Rattle.format.specs.Bits.{bits_of, fill};
 ghost use Rattle.format.specs.Build.{edits_of};
@@ -17,17 +17,52 @@ ghost use Rattle.format.specs.Edit.{field_bits, padding, read_record, any_outsid
 ghost use Rattle.format.specs.Refusals.{outcome_number};
 ghost use Rattle.keys.specs.Keys.{key_bits};
 ghost use Rattle.edits.specs.Record.{edit_meant, reach_of, formed_in, count_of, edit_at, span_at};
-ghost use Rattle.edits.specs.Record.{HeadOf, inside_head, read_tests};
+ghost use Rattle.edits.specs.Record.{HeadOf, inside_head, kind_number, read_tests};
 
 use crate::edit::Edit;
 use format::layout;
-use format::refusal::{Outcome, Refusal};
+use format::refusal::Refusal;
 use keys::Key;
+
+// What an edit's first two bits say. Their number: `kind_number` of specs/Record.antt.
+#[derive(Clone, Copy, Debug, PartialEq, Eq)]
+enum Kind {
+    Insert,
+    Update,
+    KeepChunk,
+    Malformed,
+}
+
+impl Kind {
+    // The kind that has a number of two bits.
+    fn of(number: u64) -> Self
+        requires { number < 4 }
+        ensures answer { kind_number result ≡ number }
+    {
+        match number {
+            0 => Kind::Insert,
+            1 => Kind::Update,
+            2 => Kind::KeepChunk,
+            _ => Kind::Malformed,
+        }
+    }
+
+    // How many bits of fields follow it.
+    fn field_bits(self) -> usize
+        ensures answer { (result ≡ field_bits (kind_number self)) × (result ≤ 288) }
+    {
+        match self {
+            Kind::Insert => 288,
+            Kind::Update => 42,
+            _ => 20,
+        }
+    }
+}
 
 // The fields in an edit's first 44 bits: kind; position or start; end; pointer of an Update.
 #[derive(Clone, Copy)]
 struct Head {
-    kind: u64,
+    kind: Kind,
     place: usize,
     end: usize,
     pointer: u64,
@@ -39,24 +74,11 @@ fn head_at(s: &[u8], p: usize) -> Head
 {
     let x = words::at_bit(s, p, 0);
     Head {
-        kind: x / 0x4000000000000000,
+        kind: Kind::of(x / 0x4000000000000000),
         place: (x / 0x10000000000000 % 1024) as usize,
         end: (x / 0x40000000000 % 1024) as usize,
         pointer: x / 0x100000 % 0x100000000,
     }
-}
-
-// How many bits of fields follow a kind.
-fn field_bits(kind: u64) -> usize
-    ensures answer { (result ≡ field_bits kind) × (result ≤ 288) }
-{
-    if kind == 0 {
-        return 288;
-    }
-    if kind == 1 {
-        return 42;
-    }
-    20
 }
 
 // How many edits the record says that it has.
@@ -66,25 +88,26 @@ pub fn count(s: &[u8]) -> usize
     (words::at_bit(s, 0, 0) / 0x40000000000000) as usize
 }
 
-// How many bits the edit at bit p has; 0 where its kind is 3 or the record ends before it does.
-fn span(s: &[u8], p: usize) -> usize
+// How many bits the edit at bit p has; none where it is malformed or the record ends before it does.
+fn span(s: &[u8], p: usize) -> Option<usize>
     requires { (length s.now ≤ 37085) × (p ≤ 8 * length s.now) }
-    ensures answer { (result ≡ span_at (drop p (bits_of s.now)))
-        × (p + result ≤ 8 * length s.now) }
+    ensures answer { SomeIff result (0 < span_at (drop p (bits_of s.now)))
+        (span_at (drop p (bits_of s.now))) }
+    ensures within { IfSome result (λ size. p + size ≤ 8 * length s.now) }
 {
     let left = 8 * s.len() - p;
     if left < 2 {
-        return 0;
+        return None;
     }
     let kind = head_at(s, p).kind;
-    if kind == 3 {
-        return 0;
+    if kind == Kind::Malformed {
+        return None;
     }
-    let size = 2 + field_bits(kind);
+    let size = 2 + kind.field_bits();
     if left < size {
-        return 0;
+        return None;
     }
-    size
+    Some(size)
 }
 
 // Whether nothing but padding stands from bit p on.
@@ -109,15 +132,12 @@ pub fn formed(s: &[u8]) -> bool
         return false;
     }
     let n = count(s);
-    let mut p: usize = 10;
-    let mut i: usize = 0;
-    while i < n {
-        let size = span(s, p);
-        if size == 0 {
+    let mut p = 10;
+    for _ in 0..n {
+        let Some(size) = span(s, p) else {
             return false;
-        }
+        };
         p += size;
-        i += 1;
     }
     padded(s, p)
 }
@@ -126,16 +146,11 @@ pub fn formed(s: &[u8]) -> bool
 fn inside(h: Head, n: usize) -> bool
     ensures answer { result ≡ inside_head n h }
 {
-    if h.kind == 0 {
-        return true;
+    match h.kind {
+        Kind::Insert => true,
+        Kind::Update => h.place < n,
+        _ => h.place < h.end && h.end <= n,
     }
-    if h.kind == 1 {
-        return h.place < n;
-    }
-    if h.place < h.end {
-        return h.end <= n;
-    }
-    false
 }
 
 // Whether all edits' positions lie in a base of n entries: refusal 11 is given where they do not.
@@ -143,35 +158,32 @@ fn all_inside(s: &[u8], n: usize) -> bool
     requires { formed_in (read_record s.now) ≡ true }
     ensures answer { result ≡ not (any_outside n (edits_of (read_record s.now))) }
 {
-    let k = count(s);
-    let mut p: usize = 10;
-    let mut i: usize = 0;
-    while i < k {
+    let mut p = 10;
+    for _ in 0..count(s) {
         let h = head_at(s, p);
         if !inside(h, n) {
             return false;
         }
-        p += 2 + field_bits(h.kind);
-        i += 1;
+        p += 2 + h.kind.field_bits();
     }
     true
 }
 
 // What is wrong with a record over a base of n entries, if anything. Refused, in this order: 10, it
 // is malformed; 11, a position that the base has not; 12, no edits.
-pub fn check(s: &[u8], n: usize) -> Outcome
+pub fn check(s: &[u8], n: usize) -> Result<(), Refusal>
     ensures answer { outcome_number result ≡ first (read_tests n s.now) }
 {
     if !formed(s) {
-        return Outcome::Refused(Refusal::MalformedRecord);
+        return Err(Refusal::MalformedRecord);
     }
     if !all_inside(s, n) {
-        return Outcome::Refused(Refusal::EditOutside);
+        return Err(Refusal::EditOutside);
     }
     if count(s) == 0 {
-        return Outcome::Refused(Refusal::NoEdits);
+        return Err(Refusal::NoEdits);
     }
-    Outcome::Done
+    Ok(())
 }
 
 // The key of the insert at bit p, with zeros past the record's end.
@@ -192,13 +204,12 @@ pub fn edit_at(s: &[u8], p: usize) -> Edit
         × (reach_of (edit_meant result) < 1024) }
 {
     let h = head_at(s, p);
-    let kind = h.kind;
-    if kind == 0 {
-        let pointer = words::at_bit(s, p, 258) / 0x100000000;
-        return Edit::Insert(key_at(s, p), pointer);
+    match h.kind {
+        Kind::Insert => {
+            let pointer = words::at_bit(s, p, 258) / 0x100000000;
+            Edit::Insert(key_at(s, p), pointer)
+        }
+        Kind::Update => Edit::Update(h.place, h.pointer),
+        _ => Edit::KeepChunk(h.place, h.end),
     }
-    if kind == 1 {
-        return Edit::Update(h.place, h.pointer);
-    }
-    Edit::KeepChunk(h.place, h.end)
 }
