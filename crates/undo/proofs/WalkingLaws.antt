@@ -1,89 +1,72 @@
 -- Laws of the walk over two tables' entries (`specs/Walk.antt`).
--- In order: rows from a place on; the code's state after each kind of edit; after one entry of the base.
+-- In order: rows from a place on; rows that are passed over; after one entry of the base.
 -- Not here: what is written (`WrittenLaws`); that the edits are those of an undo (`WalkLaws`).
 -- Assumes nothing.
-use mathlib.Core.Bool.{Bool, true, false}
-use mathlib.Core.List.{List, [], ◌∷◌}
-use mathlib.Core.Path.{◌≡◌, sym, ap, ap₂, ◌∙◌}
+use mathlib.Core.Bool.{true, false, cond}
+use mathlib.Core.List.{List, ◌∷◌}
+use mathlib.Core.Path.{◌≡◌, sym, ap, ◌∙◌}
 use Prim.Native.Nat.{ℕ, suc, ◌+◌, ◌≤◌, ◌<◌}
 use native.Mathlib.Omega.{arith}
-use borrow.Author.Tests.{eq-eqb, le-ltb, lt-ltb, ne_eqb}
+use borrow.Author.Tests.{eq-eqb, ne_eqb}
 use lib.Dec.{eqb}
-use lib.ListN.{drop, drop_of_length-le, length}
+use lib.ListN.{drop, drop_of_length-le, get_or, length}
 use lib.Seq.{drop-cons}
 use Rattle.format.specs.Key.{below}
 use Rattle.format.specs.Page.{Entry}
-use Rattle.format.specs.Edit.{Edit, no_entry}
-use Rattle.format.specs.Edit.Edit.{Insert, Update, Keep}
-use Rattle.rows.specs.Rows.{row_entry, row_key, row_pointer, rows}
+use Rattle.format.specs.Edit.{no_entry}
+use Rattle.format.specs.Edit.Edit.{Insert, Update}
+use Rattle.keys.specs.Keys.{key_bits}
+use Rattle.rows.specs.declared.table.Row.{Row}
+use Rattle.rows.specs.Rows.{zero_row, row_entry, row_key, row_pointer, rows}
 use Rattle.rows.proofs.RowsLaws.{length-rows, rows_at}
-use Rattle.branch_ops.specs.Writer.{Writing, pushed_all, pushed_bytes, pushed_writer}
-use Rattle.branch_ops.specs.declared.writer.RecordWriter.{RecordWriter}
 use Rattle.undo.specs.declared.Walk.{Walk}
-use Rattle.undo.specs.Walk.{begun, closed, kept, met, othered, skipped, stepped, walking, writing_of}
+use Rattle.undo.specs.Walk.{kept, met, othered, skipped, stepped, walking}
 
 -- ---- rows
 
-pub drop-rows : (k : ℕ) (t : List ℕ) (j : ℕ) → j < k → drop j (rows k t) ≡ row_entry t j ∷ drop (suc j) (rows k t)
+pub drop-rows : (k : ℕ) (t : List Row) (j : ℕ) → j < k → drop j (rows k t) ≡ row_entry t j ∷ drop (suc j) (rows k t)
 drop-rows k t j h =
     let l : j < length (rows k t) = omega (arith, length-rows k t) in
     drop-cons (rows k t) j no_entry l ∙ ap (λ (e : Entry). e ∷ drop (suc j) (rows k t)) (rows_at k t j no_entry h)
 
--- ---- the code's state
+-- ---- rows that are passed over
 
-module _ (w : Walk) (d : List ℕ) where
-  -- the open run is written
-  pub closed_open : (r : RecordWriter) (d' : List ℕ) → w.start < w.end
-      → r ≡ pushed_writer w.writer d (Keep w.start w.end) → d' ≡ pushed_bytes w.writer d (Keep w.start w.end)
-      → writing_of r d' ≡ closed (walking w d)
-  unfolding closed walking writing_of pushed_all
-  closed_open r d' h er ed =
-      ap₂ (λ (x : RecordWriter) (y : List ℕ). writing_of x y) er ed ∙ sym (rw (lt-ltb w.start w.end h))
+-- from `at` up to j rows are passed over
+abbrev pub Passed : List Row → ℕ → ℕ → List ℕ → ℕ → Type 0
+Passed t k at key j = skipped key at (drop at (rows k t)) ≡ skipped key j (drop j (rows k t))
 
-  -- there is none
-  pub closed_none : w.end ≤ w.start → writing_of w.writer d ≡ closed (walking w d)
-  unfolding closed walking writing_of
-  closed_none h = sym (rw (le-ltb w.start w.end h))
+module _ (t : List Row) (k at j : ℕ) (key : List ℕ) (s : Passed t k at key j) where
+  module _ (h : j < k) where
+    here : skipped key at (drop at (rows k t)) ≡ cond (below (row_key t j) key) (skipped key (suc j) (drop (suc j) (rows k t))) j
+    unfolding skipped row_entry
+    here = s ∙ ap (skipped key j) (drop-rows k t j h)
 
-  module _ (j : ℕ) where
-    pub kept_grows : w.start < w.end → w.end ≡ j
-        → walking (record { writer = w.writer; at = j + 1; start = w.start; end = j + 1 }) d ≡ kept (walking w d) j
-    unfolding kept walking
-    kept_grows h e = sym (rw (lt-ltb w.start w.end h, eq-eqb w.end j e))
+    pub passed_stop : below (row_key t j) key ≡ false → j ≡ skipped key at (drop at (rows k t))
+    passed_stop b = sym (here ∙ rw b)
 
-    pub begun_is : (c : RecordWriter) (d' : List ℕ) → writing_of c d' ≡ closed (walking w d)
-        → walking (record { writer = c; at = j + 1; start = j; end = j + 1 }) d' ≡ begun (walking w d) j
-    unfolding begun walking
-    begun_is c d' e = ap (λ (x : Writing). record { writing = x; at = j + 1; start = j; end = j + 1 }) e
+    pub passed_more : below (row_key t j) key ≡ true → Passed t k at key (j + 1)
+    passed_more b =
+        let z : suc j ≡ j + 1 = omega arith in
+        here ∙ rw b (ap (λ (i : ℕ). skipped key i (drop i (rows k t))) z)
 
-    pub kept_apart : (r : Walk) (d' : List ℕ) → w.start < w.end → (w.end ≡ j → ⊥)
-        → walking r d' ≡ begun (walking w d) j → walking r d' ≡ kept (walking w d) j
-    unfolding kept walking
-    kept_apart r d' h n e = e ∙ sym (rw (lt-ltb w.start w.end h, ne_eqb w.end j n))
+  pub passed_all : k ≤ j → j ≡ skipped key at (drop at (rows k t))
+  unfolding skipped
+  passed_all h =
+      let l : length (rows k t) ≤ j = omega (arith, length-rows k t) in
+      sym (s ∙ ap (skipped key j) (drop_of_length-le (rows k t) l))
 
-    pub kept-first : (r : Walk) (d' : List ℕ) → w.end ≤ w.start
-        → walking r d' ≡ begun (walking w d) j → walking r d' ≡ kept (walking w d) j
-    unfolding kept walking
-    kept-first r d' h e = e ∙ sym (rw (le-ltb w.start w.end h))
-
-  pub othered_is : (at : ℕ) (e : Edit) (c p : RecordWriter) (d₁ d₂ : List ℕ) → writing_of c d₁ ≡ closed (walking w d)
-      → p ≡ pushed_writer c d₁ e → d₂ ≡ pushed_bytes c d₁ e
-      → walking (record { writer = p; at = at; start = 0; end = 0 }) d₂ ≡ othered (walking w d) at e
-  unfolding othered walking writing_of pushed_all
-  othered_is at e c p d₁ d₂ ec ep ed =
-      ap₂ (λ (x : RecordWriter) (y : List ℕ). record { writing = writing_of x y; at = at; start = 0; end = 0 }) ep ed
-      ∙ ap (λ (s : Writing). record { writing = pushed_all s (e ∷ []); at = at; start = 0; end = 0 }) ec
+pub ruleset passing = (passed_stop, passed_more, passed_all)
 
 -- ---- one entry of the base
 
-module _ (w : Walk) (d base : List ℕ) (i : ℕ) (new : List ℕ) (k : ℕ) (kb : List ℕ) (p j : ℕ) (r : Walk) (d' : List ℕ)
-    (ek : kb ≡ row_key base i) (ep : p ≡ row_pointer base i) (ej : j ≡ skipped kb w.at (drop w.at (rows k new))) where
+module _ (w : Walk) (d : List ℕ) (base : List Row) (i : ℕ) (new : List Row) (k : ℕ) (b : Row) (j : ℕ) (r : Walk) (d' : List ℕ)
+    (eb : b ≡ get_or base i zero_row) (ej : j ≡ skipped (key_bits b.key) w.at (drop w.at (rows k new))) where
   entry_is : Entry
-  entry_is = record { key = kb; pointer = p }
+  entry_is = record { key = key_bits b.key; pointer = b.pointer }
 
   same_entry : entry_is ≡ row_entry base i
-  unfolding entry_is row_entry
-  same_entry = ap₂ (λ (x : List ℕ) (y : ℕ). record { key = x; pointer = y }) ek ep
+  unfolding entry_is row_entry row_key row_pointer
+  same_entry = ap (λ (x : Row). record { key = key_bits x.key; pointer = x.pointer }) eb
 
   -- what the entry meets decides
   by_meeting : walking r d' ≡ met (walking w d) entry_is j (drop j (rows k new))
@@ -93,37 +76,40 @@ module _ (w : Walk) (d base : List ℕ) (i : ℕ) (new : List ℕ) (k : ℕ) (kb
       e ∙ ap (λ (x : ℕ). met (walking w d) entry_is x (drop x (rows k new))) ej
       ∙ ap (λ (b : Entry). stepped (walking w d) b (rows k new)) same_entry
 
-  pub stepped-end : k ≤ j → walking r d' ≡ othered (walking w d) j (Insert kb p)
+  pub stepped_end : k ≤ j → walking r d' ≡ othered (walking w d) j (Insert (key_bits b.key) b.pointer)
       → walking r d' ≡ stepped (walking w d) (row_entry base i) (rows k new)
   unfolding met entry_is
-  stepped-end h e =
+  stepped_end h e =
       let l : length (rows k new) ≤ j = omega (arith, length-rows k new) in
       by_meeting (e ∙ sym (ap (met (walking w d) entry_is j) (drop_of_length-le (rows k new) l)))
 
-  module _ (o : List ℕ) (b : Bool) (h : j < k) (eo : o ≡ row_key new j) (eb : b ≡ below kb o) where
-    test_is : below kb (row_key new j) ≡ b
-    test_is = ap (below kb) (sym eo) ∙ sym eb
+  module _ (o : Row) (h : j < k) (eo : o ≡ get_or new j zero_row) where
+    head_is : drop j (rows k new) ≡ record { key = key_bits o.key; pointer = o.pointer } ∷ drop (suc j) (rows k new)
+    unfolding row_entry row_key row_pointer
+    head_is =
+        drop-rows k new j h
+        ∙ ap (λ (x : Row). record { key = key_bits x.key; pointer = x.pointer } ∷ drop (suc j) (rows k new)) (sym eo)
 
-    pub stepped_before : b ≡ true → walking r d' ≡ othered (walking w d) j (Insert kb p)
+    pub stepped_before : below (key_bits b.key) (key_bits o.key) ≡ true
+        → walking r d' ≡ othered (walking w d) j (Insert (key_bits b.key) b.pointer)
         → walking r d' ≡ stepped (walking w d) (row_entry base i) (rows k new)
-    unfolding met entry_is row_entry
-    stepped_before t e =
-        let q : below kb (row_key new j) ≡ true = test_is ∙ t in
-        by_meeting (e ∙ sym (ap (met (walking w d) entry_is j) (drop-rows k new j h) ∙ rw q))
+    unfolding met entry_is
+    stepped_before t e = by_meeting (e ∙ sym (ap (met (walking w d) entry_is j) head_is ∙ rw t))
 
-    pub stepped_kept : b ≡ false → (x : ℕ) → x ≡ row_pointer new j → x ≡ p → walking r d' ≡ kept (walking w d) j
+    pub stepped_kept : below (key_bits b.key) (key_bits o.key) ≡ false → o.pointer ≡ b.pointer
+        → walking r d' ≡ kept (walking w d) j
         → walking r d' ≡ stepped (walking w d) (row_entry base i) (rows k new)
-    unfolding met entry_is row_entry
-    stepped_kept f x ex s e =
-        let q : below kb (row_key new j) ≡ false = test_is ∙ f in
-        let g : eqb (row_pointer new j) p ≡ true = eq-eqb (row_pointer new j) p (sym ex ∙ s) in
-        by_meeting (e ∙ sym (ap (met (walking w d) entry_is j) (drop-rows k new j h) ∙ rw (q, g)))
+    unfolding met entry_is
+    stepped_kept f s e =
+        let g : eqb o.pointer b.pointer ≡ true = eq-eqb o.pointer b.pointer s in
+        by_meeting (e ∙ sym (ap (met (walking w d) entry_is j) head_is ∙ rw (f, g)))
 
-    pub stepped_updated : b ≡ false → (x : ℕ) → x ≡ row_pointer new j → (x ≡ p → ⊥)
-        → walking r d' ≡ othered (walking w d) (j + 1) (Update j p)
+    pub stepped_updated : below (key_bits b.key) (key_bits o.key) ≡ false → (o.pointer ≡ b.pointer → ⊥)
+        → walking r d' ≡ othered (walking w d) (j + 1) (Update j b.pointer)
         → walking r d' ≡ stepped (walking w d) (row_entry base i) (rows k new)
-    unfolding met entry_is row_entry
-    stepped_updated f x ex n e =
-        let q : below kb (row_key new j) ≡ false = test_is ∙ f in
-        let g : eqb (row_pointer new j) p ≡ false = ne_eqb (row_pointer new j) p (λ (z : row_pointer new j ≡ p). n (ex ∙ z)) in
-        by_meeting (e ∙ sym (ap (met (walking w d) entry_is j) (drop-rows k new j h) ∙ rw (q, g)))
+    unfolding met entry_is
+    stepped_updated f n e =
+        let g : eqb o.pointer b.pointer ≡ false = ne_eqb o.pointer b.pointer n in
+        by_meeting (e ∙ sym (ap (met (walking w d) entry_is j) head_is ∙ rw (f, g)))
+
+pub ruleset stepping = (stepped_end, stepped_before, stepped_kept, stepped_updated)

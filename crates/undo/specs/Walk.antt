@@ -1,7 +1,7 @@
 -- The undo edits as one walk over the base's entries and the new ones. Document 01, "Undo record".
--- In order: skipped meet after walk · undo_size · Walking writing_of walking · closed begun kept othered met stepped walked.
+-- In order: skipped meet after walk · undo_size · Walking writing_of walking · run_written closed begun kept_behind kept othered met stepped walked.
 -- Assumes nothing.
-use Rattle.std.specs.Prelude.{cond, ◌&&◌, List, [], ◌∷◌, ℕ, suc, ◌+◌, eqb, ltb, drop}
+use Rattle.std.specs.Prelude.{cond, Option, Some, None, List, [], ◌∷◌, ℕ, suc, ◌+◌, eqb, drop}
 use Rattle.format.specs.Bits.{bytes_for}
 use Rattle.format.specs.Key.{below}
 use Rattle.format.specs.Page.{Entry}
@@ -46,48 +46,53 @@ unfoldable pub undo_size : List ℕ → List Edit → ℕ
 unfolding bytes_for pushed_all starting_writer
 undo_size d es = bytes_for (pushed_all (record { writer = starting_writer; buffer = d }) es).writer.bit
 
--- A walk as far as it has come: what is written, the position in the new entries, the open run of kept ones.
+-- A walk as far as it has come: what is written, the position in the new entries, where the open run of kept ones
+-- starts and ends, if there is one.
 pub record Walking : Type 0 where
   pub writing : Writing
   pub at : ℕ
-  pub start : ℕ
-  pub end : ℕ
+  pub run : Option (ℕ × ℕ)
 
 -- What a writer and a buffer say of it.
-unfoldable pub writing_of : RecordWriter → List ℕ → Writing
+abbrev pub writing_of : RecordWriter → List ℕ → Writing
 writing_of w d = record { writer = w; buffer = d }
 
 -- What the code's state and a buffer say of it.
 unfoldable pub walking : Walk → List ℕ → Walking
-unfolding writing_of
-walking w d = record { writing = writing_of w.writer d; at = w.at; start = w.start; end = w.end }
+walking w d = record { writing = writing_of w.writer d; at = w.at; run = w.run }
+
+-- A run behind what is written, if there is one.
+unfoldable pub run_written : Writing → Option (ℕ × ℕ) → Writing
+unfolding pushed_all
+run_written s None = s
+run_written s (Some (a, b)) = pushed_all s (Keep a b ∷ [])
 
 -- What is written once the open run is, if there is one.
-unfoldable pub closed : Walking → Writing
-unfolding pushed_all
-closed w = cond (ltb w.start w.end) (pushed_all w.writing (Keep w.start w.end ∷ [])) w.writing
+abbrev pub closed : Walking → Writing
+closed w = run_written w.writing w.run
 
 -- A run of kept entries begins at j, behind the open one.
-unfoldable pub begun : Walking → ℕ → Walking
-unfolding closed
-begun w j = record { writing = closed w; at = j + 1; start = j; end = j + 1 }
+abbrev pub begun : Walking → ℕ → Walking
+begun w j = record { writing = closed w; at = j + 1; run = Some (j, j + 1) }
 
--- The new entry at j is kept: the open run grows by it, or a new one begins there.
-unfoldable pub kept : Walking → ℕ → Walking
-unfolding begun
-kept w j =
-    cond (ltb w.start w.end && eqb w.end j)
-    (record { writing = w.writing; at = j + 1; start = w.start; end = j + 1 })
-    (begun w j)
+-- The new entry at j is kept: a run that ends there grows by it, or a new one begins there.
+unfoldable pub kept_behind : Option (ℕ × ℕ) → Walking → ℕ → Walking
+unfolding run_written
+kept_behind None w j = begun w j
+kept_behind (Some (a, b)) w j =
+    cond (eqb b j) (record { writing = w.writing; at = j + 1; run = Some (a, j + 1) }) (begun w j)
+
+-- It is kept behind the open run.
+abbrev pub kept : Walking → ℕ → Walking
+kept w j = kept_behind w.run w j
 
 -- Another edit is written, behind the open run.
-unfoldable pub othered : Walking → ℕ → Edit → Walking
-unfolding closed pushed_all
-othered w at e = record { writing = pushed_all (closed w) (e ∷ []); at = at; start = 0; end = 0 }
+abbrev pub othered : Walking → ℕ → Edit → Walking
+othered w at e = record { writing = pushed_all (closed w) (e ∷ []); at = at; run = None }
 
 -- The walk after b, where es, from position j on, are the new entries whose keys are not below b's.
 unfoldable pub met : Walking → Entry → ℕ → List Entry → Walking
-unfolding below kept othered
+unfolding below kept_behind run_written pushed_all
 met w b j [] = othered w j (Insert b.key b.pointer)
 met w b j (e ∷ es) =
     cond (below b.key e.key) (othered w j (Insert b.key b.pointer))
