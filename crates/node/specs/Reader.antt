@@ -1,19 +1,18 @@
 -- What the checking reader answers and writes. Document 01, "The page", and the refusals 1 to 8 and 16.
 -- In order: entry_answer pointer_read key_bytes · loaded.
 -- Assumes nothing.
-use Rattle.std.specs.Prelude.{ℕ, ◌||◌, cond, List, eqb}
+use Rattle.std.specs.Prelude.{ℕ, ◌||◌, cond, List, Result, eqb}
 use Rattle.format.specs.Answer.{Answer}
 use Rattle.format.specs.Bits.{pack}
 use Rattle.format.specs.Page.{Entry, entries, page_refusal}
-use Rattle.format.specs.Refusals.{refusal_number}
+use Rattle.format.specs.Refusals.{answer_of}
+use Rattle.format.specs.declared.refusal.Refusal.{Refusal}
 use Rattle.rows.specs.Rows.{with_rows}
-use Rattle.node.specs.declared.reader.EntryRead.{EntryRead}
-use Rattle.node.specs.declared.reader.EntryRead.TheVariants.{Pointer, Refused as NotRead}
+use Rattle.rows.specs.declared.table.Row.{Row}
 
 -- What reading an entry answers: the pointer, or the number of the refusal.
-abbrev pub entry_answer : EntryRead → Answer ℕ
-entry_answer (Pointer x) = Answer.Value x
-entry_answer (NotRead r) = Answer.Refused (refusal_number r)
+abbrev pub entry_answer : Result ℕ Refusal → Answer ℕ
+entry_answer r = answer_of (λ (x : ℕ). x) r
 
 -- The pointer of an entry that was read.
 unfoldable pub pointer_read : Answer Entry → Answer ℕ
@@ -27,6 +26,6 @@ key_bytes e = pack 32 e.key
 
 -- A table after a page was loaded: where none of 1 to 7 holds, the page's entries in its first rows, each with its
 -- position, as far as it has rows; where one of them holds, what it held before.
-unfoldable pub loaded : List ℕ → List ℕ → List ℕ
+unfoldable pub loaded : List ℕ → List Row → List Row
 unfolding page_refusal with_rows entries
 loaded p t = cond (eqb (page_refusal p) 0 || eqb (page_refusal p) 8) (with_rows t 0 (entries p)) t

@@ -31,31 +31,15 @@ use format::layout;
 use format::refusal::Refusal;
 use keys::Key;
 use rows::table;
-use shape::{Checked, Header};
+use rows::table::Row;
+use shape::Header;
 
-// What reading an entry answers: its pointer, or one of 1 to 8, or 16.
+// A page that has the sizes that its header says.
 #[derive(Clone, Copy)]
-pub enum EntryRead {
-    Pointer(u64),
-    Refused(Refusal),
-}
-
-// The pointer of entry i of a page whose header fits it.
-fn node_pointer(page: &[u8], h: Header, i: usize) -> u64
-    requires { SizesFit page.now h × (i < h.n) }
-    ensures answer { result ≡ pointer_of page.now i }
-{
-    numbers::le_u32(page, layout::PAGE_SIZE - 4 * h.n + 4 * i)
-}
-
-// The prefix, and zeros.
-fn prefix(page: &[u8], h: Header) -> Key
-    requires { SizesFit page.now h }
-    ensures answer { key_bits result
-        ≡ fill 256 (take (prefix_length page.now) (body page.now)) }
-{
-    let start = 8 * (layout::HEADER_SIZE + 2 * h.n);
-    Key::zero().with_bits(0, page, start, h.q)
+struct Page<'a> {
+    bytes: &'a [u8],
+    header: Header,
+    ghost fits: { SizesFit bytes.now header },
 }
 
 // Where a separator stands in a page: its first bit, and how many it has.
@@ -65,27 +49,94 @@ struct Separator {
     len: usize,
 }
 
-// The separator between two offsets.
-fn between(h: Header, start: usize, end: usize) -> Separator
-    requires { (h.n ≤ 681) × (h.q ≤ 256) × (start < 65536) }
-    ensures answer { (result.bit ≡ 8 * (10 + 2 * h.n) + h.q + start) × (result.len ≡ end - start) }
-{
-    Separator {
-        bit: 8 * (layout::HEADER_SIZE + 2 * h.n) + h.q + start,
-        len: numbers::over(end, start),
+impl<'a> Page<'a> {
+    // The pointer of entry i.
+    fn node_pointer(&self, i: usize) -> u64
+        requires { i < self.now.header.n }
+        ensures answer { result ≡ pointer_of self.now.bytes.now i }
+    {
+        numbers::le_u32(self.bytes, layout::PAGE_SIZE - 4 * self.header.n + 4 * i)
     }
-}
 
-// The key of entry i, out of the prefix and its separator, which starts and ends at two offsets. For
-// the loop over all entries, where most keys end in their first word.
-fn get_key(page: &[u8], h: Header, prefix: Key, i: usize, start: usize, end: usize) -> Key
-    requires { SizesFit page.now h
-        × (key_bits prefix ≡ fill 256 (take (prefix_length page.now) (body page.now)))
-        × (start ≡ start_of page.now i) × (start < 65536) × (end ≡ end_of page.now i) }
-    ensures answer { key_bits result ≡ key_of page.now i }
-{
-    let s = between(h, start, end);
-    prefix.with_few_bits(shape::prefix_bits(h, i), page, s.bit, s.len)
+    // The prefix, and zeros.
+    fn prefix(&self) -> Key
+        ensures answer { key_bits result
+            ≡ fill 256 (take (prefix_length self.now.bytes.now) (body self.now.bytes.now)) }
+    {
+        let start = 8 * (layout::HEADER_SIZE + 2 * self.header.n);
+        Key::zero().with_bits(0, self.bytes, start, self.header.q)
+    }
+
+    // The separator between two offsets.
+    fn between(&self, start: usize, end: usize) -> Separator
+        requires { start < 65536 }
+        ensures answer { (result.bit ≡ 8 * (10 + 2 * self.now.header.n) + self.now.header.q + start)
+            × (result.len ≡ end - start) }
+    {
+        Separator {
+            bit: 8 * (layout::HEADER_SIZE + 2 * self.header.n) + self.header.q + start,
+            len: end.saturating_sub(start),
+        }
+    }
+
+    // The key of entry i, out of the prefix and its separator, which starts and ends at two offsets.
+    // For the loop over all entries, where most keys end in their first word.
+    fn get_key(&self, prefix: Key, i: usize, start: usize, end: usize) -> Key
+        requires { (key_bits prefix
+            ≡ fill 256 (take (prefix_length self.now.bytes.now) (body self.now.bytes.now)))
+            × (start ≡ start_of self.now.bytes.now i) × (start < 65536)
+            × (end ≡ end_of self.now.bytes.now i) }
+        ensures answer { key_bits result ≡ key_of self.now.bytes.now i }
+    {
+        let s = self.between(start, end);
+        prefix.with_few_bits(shape::prefix_bits(self.header, i), self.bytes, s.bit, s.len)
+    }
+
+    // All entries into the rows of a table, with their positions. Refusal 8: whether the keys are not
+    // strictly ascending.
+    fn load_rows(&self, t: &mut [Row]) -> bool
+        ensures answer { result ≡ unordered (key_of self.now.bytes.now) self.now.header.n }
+        ensures written { t.new ≡ with_rows t.old 0 (entries self.now.bytes.now) }
+    {
+        let shared = self.prefix();
+        let mut start = 0;
+        let mut before = Key::zero();
+        let mut found = false;
+        for i in 0..self.header.n {
+            let end = shape::cell(self.bytes, i);
+            let key = self.get_key(shared, i, start, end);
+            let pointer = self.node_pointer(i);
+            table::set_row(
+                t,
+                i,
+                Row {
+                    key,
+                    pointer,
+                    source: i as u64,
+                },
+            );
+            found = unrisen(i, before, key, found);
+            start = end;
+            before = key;
+        }
+        found
+    }
+
+    // The key of entry i into 32 bytes, and its pointer.
+    fn copy_entry(&self, i: usize, key_out: &mut [u8; 32]) -> u64
+        requires { i < self.now.header.n }
+        ensures answer { result ≡ pointer_of self.now.bytes.now i }
+        ensures written { key_out.new ≡ pack 32 (key_of self.now.bytes.now i) }
+    {
+        let s = self.between(
+            shape::start_offset(self.bytes, i),
+            shape::cell(self.bytes, i),
+        );
+        let bits = shape::prefix_bits(self.header, i);
+        let key = self.prefix().with_bits(bits, self.bytes, s.bit, s.len);
+        key.to_bytes(key_out);
+        self.node_pointer(i)
+    }
 }
 
 // Whether key i is not above the one before it, if there is one, or one before it was not.
@@ -93,95 +144,50 @@ fn unrisen(i: usize, before: Key, key: Key, found: bool) -> bool
     ensures answer { result
         ≡ cond (eqb i 0) found (not (below (key_bits before) (key_bits key)) || found) }
 {
-    if i == 0 {
-        return found;
-    }
-    if !before.less(key) {
-        return true;
-    }
-    found
-}
-
-// All entries into the rows of a table, with their positions. Refusal 8: whether the keys are not
-// strictly ascending.
-fn load_rows(page: &[u8], h: Header, t: &mut [u64]) -> bool
-    requires { SizesFit page.now h }
-    ensures answer { result ≡ unordered (key_of page.now) h.n }
-    ensures written { t.new
-        ≡ with_rows t.old 0 (entries page.now) }
-{
-    let n = h.n;
-    let shared = prefix(page, h);
-    let mut start: usize = 0;
-    let mut before = Key::zero();
-    let mut found = false;
-    let mut i: usize = 0;
-    while i < n {
-        let end = shape::cell(page, i);
-        let key = get_key(page, h, shared, i, start, end);
-        table::set_row(t, i, key, node_pointer(page, h, i), i as u64);
-        found = unrisen(i, before, key, found);
-        start = end;
-        before = key;
-        i += 1;
-    }
-    found
+    found || 0 < i && !before.less(key)
 }
 
 // Checks a page and puts its entries into the first rows of a table, each with its position; those
 // past the table's last row are left out. Its header, or the first of 1 to 8 that holds, each tested
 // over all entries before the next. The table is as it was after 1 to 7, and after 8 it has the
 // entries.
-pub fn load_page(page: &[u8], t: &mut [u64]) -> Checked
+pub fn load_page(page: &[u8], t: &mut [Row]) -> Result<Header, Refusal>
     ensures answer { checked_answer result ≡ check_page page.now }
     ensures written { t.new ≡ loaded page.now t.old }
 {
-    match shape::shaped(page) {
-        Checked::Refused(r) => Checked::Refused(r),
-        Checked::Page(h) => {
-            if load_rows(page, h, t) {
-                return Checked::Refused(Refusal::KeysNotAscending);
-            }
-            Checked::Page(h)
-        }
+    let header = shape::shaped(page)?;
+    let sized = Page {
+        bytes: page,
+        header,
+    };
+    if sized.load_rows(t) {
+        return Err(Refusal::KeysNotAscending);
     }
+    Ok(header)
 }
 
 // Checks a page: its header, or the first of 1 to 8 that holds. As a page is loaded, into a table
 // with no rows.
-pub fn check(page: &[u8]) -> Checked
+pub fn check(page: &[u8]) -> Result<Header, Refusal>
     ensures answer { checked_answer result ≡ check_page page.now }
 {
-    let mut none = [0u64; 0];
-    load_page(page, &mut none)
-}
-
-// The key of entry i into 32 bytes, and its pointer.
-fn copy_entry(page: &[u8], h: Header, i: usize, key_out: &mut [u8; 32]) -> u64
-    requires { SizesFit page.now h × (i < h.n) }
-    ensures answer { result ≡ pointer_of page.now i }
-    ensures written { key_out.new ≡ pack 32 (key_of page.now i) }
-{
-    let s = between(h, shape::start_offset(page, i), shape::cell(page, i));
-    let key = prefix(page, h).with_bits(shape::prefix_bits(h, i), page, s.bit, s.len);
-    key.to_bytes(key_out);
-    node_pointer(page, h, i)
+    load_page(page, &mut [])
 }
 
 // Entry `index` of a page: its pointer, and its key into `key_out`. Refused with 1 to 8, then with
 // 16 where the page has no such entry; `key_out` is then as it was.
-pub fn entry(page: &[u8], index: usize, key_out: &mut [u8; 32]) -> EntryRead
+pub fn entry(page: &[u8], index: usize, key_out: &mut [u8; 32]) -> Result<u64, Refusal>
     ensures answer { entry_answer result ≡ pointer_read (read_entry page.now index) }
     ensures written { key_out.new
         ≡ afterwards (read_entry page.now index) key_bytes key_out.old }
 {
-    match check(page) {
-        Checked::Refused(r) => EntryRead::Refused(r),
-        Checked::Page(h) => {
-            if h.n <= index {
-                return EntryRead::Refused(Refusal::IndexPastEnd);
-            }
-            EntryRead::Pointer(copy_entry(page, h, index, key_out))
-        }
+    let header = check(page)?;
+    if header.n <= index {
+        return Err(Refusal::IndexPastEnd);
     }
+    let sized = Page {
+        bytes: page,
+        header,
+    };
+    Ok(sized.copy_entry(index, key_out))
 }

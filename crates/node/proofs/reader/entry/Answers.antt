@@ -18,16 +18,16 @@ use Rattle.facts.proofs.AcceptedLaws.{
   read_entry-refused,
 }
 use Rattle.shape.specs.declared.Header.{Header}
-use Rattle.shape.specs.declared.Checked.{Checked}
-use Rattle.shape.specs.declared.Checked.TheVariants.{Page, Refused}
+use Rattle.std.specs.Prelude.{Result, Ok, Err, IsErr, IsErrAnd}
 use Rattle.shape.specs.Shape.{SizesFit, checked_answer, header_meant}
-use Rattle.node.specs.Reader.{key_bytes, pointer_read}
+use Rattle.node.specs.Reader.{entry_answer, key_bytes, pointer_read}
+use Rattle.facts.proofs.RefusalLaws.{err_handed}
 use Rattle.shape.proofs.CheckedLaws.{checked_accepted, checked_fits, checked_refused}
 use Rattle.std.proofs.Common.{rules}
 use Rattle.node.proofs.reader.entry.Goals as goal
 
-module _ (p : List ℕ) (c : Checked) (e : checked_answer c ≡ check_page p) (i : ℕ) where
-  module _ (x : Refusal) (q : c ≡ Refused x) where
+module _ (p : List ℕ) (c : Result Header Refusal) (e : checked_answer c ≡ check_page p) (i : ℕ) where
+  module _ (x : Refusal) (q : c ≡ Err x) where
     is_refused : read_entry p i ≡ Answer.Refused (refusal_number x)
     is_refused =
         let r : (page_refusal p ≡ refusal_number x) × (0 < refusal_number x) =
@@ -39,11 +39,16 @@ module _ (p : List ℕ) (c : Checked) (e : checked_answer c ≡ check_page p) (i
     unfolding pointer_read
     refused = sym (ap pointer_read is_refused)
 
+    -- what `?` hands on
+    handed : (r : Result ℕ Refusal) → IsErr r → IsErrAnd r (λ (y : Refusal). y ≡ x)
+        → entry_answer r ≡ pointer_read (read_entry p i)
+    handed r u v = ap entry_answer (err_handed r x u v) ∙ refused
+
     refused-kept : (k : List ℕ) → k ≡ afterwards (read_entry p i) key_bytes k
     unfolding afterwards
     refused-kept k = sym (ap (λ (a : Answer Entry). afterwards a key_bytes k) is_refused)
 
-  module _ (h : Header) (q : c ≡ Page h) where
+  module _ (h : Header) (q : c ≡ Ok h) where
     answered : Answer.Value (header_meant h) ≡ check_page p
     answered = sym (ap checked_answer q) ∙ e
 
@@ -77,25 +82,29 @@ module _ (p : List ℕ) (c : Checked) (e : checked_answer c ≡ check_page p) (i
       unfolding afterwards key_bytes entry_of
       key was k ek = ek ∙ sym (ap (λ (a : Answer Entry). afterwards a key_bytes was) is_read)
 
-ruleset laws = (refused, refused-kept, fits, outside, outside_kept, pointer, key)
+ruleset laws = (handed, refused, refused-kept, fits, outside, outside_kept, pointer, key)
 
-pub check-requires : goal.check-requires
-check-requires c = search (rules, laws)
+pub returns-in_err-header-clause-answer : goal.returns-in_err-header-clause-answer
+returns-in_err-header-clause-answer c = search (rules, laws)
 
-pub enum_known-r : goal.enum_known-r
-enum_known-r c = search (rules, laws)
+pub returns-in_err-header-clause-written : goal.returns-in_err-header-clause-written
+returns-in_err-header-clause-written c = refused-kept _ _ c.check.ensures.answer _ _ c.in_err-header.was _
 
-pub enum_known-h : goal.enum_known-h
-enum_known-h c = search (rules, laws)
+pub returns-then-header-index-clause-answer : goal.returns-then-header-index-clause-answer
+returns-then-header-index-clause-answer c =
+    outside _ _ c.check.ensures.answer _ _ c.in_ok-header.was c.if-header-index.true
 
-pub returns-then-h-index : goal.returns-then-h-index
-returns-then-h-index c = search (rules, laws)
+pub returns-then-header-index-clause-written : goal.returns-then-header-index-clause-written
+returns-then-header-index-clause-written c =
+    outside_kept _ _ c.check.ensures.answer _ _ c.in_ok-header.was c.if-header-index.true _
 
-pub copy_entry-requires : goal.copy_entry-requires
-copy_entry-requires c = search (rules, laws)
+pub invariant_of-sized : goal.invariant_of-sized
+invariant_of-sized c = record { fits = fits _ _ c.check.ensures.answer c.args.index _ c.in_ok-header.was }
 
-pub returns-in-Refused : goal.returns-in-Refused
-returns-in-Refused c = search (rules, laws)
+pub returns-clause-answer : goal.returns-clause-answer
+returns-clause-answer c =
+    pointer _ _ c.check.ensures.answer _ _ c.in_ok-header.was c.if-header-index.false _ c.copy_entry.ensures.answer
 
-pub returns-else-h-index : goal.returns-else-h-index
-returns-else-h-index c = search (rules, laws)
+pub returns-clause-written : goal.returns-clause-written
+returns-clause-written c =
+    key _ _ c.check.ensures.answer _ _ c.in_ok-header.was c.if-header-index.false _ _ c.copy_entry.ensures.written

@@ -8,8 +8,6 @@ use lib.Dec.{eqb}
 use Rattle.format.specs.Key.{below}
 use Rattle.keys.specs.declared.Key.{Key}
 use Rattle.keys.specs.Keys.{key_bits}
-use Rattle.std.proofs.Common.{rules}
-use Rattle.node.proofs.reader.unrisen.Goals as goal
 
 module _ (i : ℕ) (k l : Key) (f : Bool) where
   first : i ≡ 0 → f ≡ cond (eqb i 0) f (not (below (key_bits k) (key_bits l)) || f)
@@ -23,15 +21,3 @@ module _ (i : ℕ) (k l : Key) (f : Bool) where
     above e = sym (ap₂ (λ (x y : Bool). cond x f (y || f)) (ne_eqb i 0 z) (sym (ap not er) ∙ e))
 
 ruleset laws = (first, above, not_above)
-
-pub returns-then-i-eq0 : goal.returns-then-i-eq0
-returns-then-i-eq0 c = search (rules, laws)
-
-pub less-requires : goal.less-requires
-less-requires c = search (rules, laws)
-
-pub returns-then-not-less : goal.returns-then-not-less
-returns-then-not-less c = search (rules, laws)
-
-pub returns : goal.returns
-returns c = search (rules, laws)

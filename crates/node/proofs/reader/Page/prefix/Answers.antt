@@ -1,4 +1,4 @@
--- `node::reader::prefix` meets its contract: the prefix begins behind the end offsets.
+-- `node::reader::Page::prefix` meets its contract: the prefix begins behind the end offsets.
 -- Assumes nothing.
 use mathlib.Core.List.{List, ◌++◌}
 use mathlib.Core.Path.{◌≡◌, ap, ap₂, ◌∙◌}
@@ -12,7 +12,7 @@ use Rattle.keys.specs.Keys.{key_bits}
 use Rattle.shape.specs.declared.Header.{Header}
 use Rattle.shape.specs.Shape.{SizesFit}
 use Rattle.std.proofs.Common.{rules}
-use Rattle.node.proofs.reader.prefix.Goals as goal
+use Rattle.node.proofs.reader.Page.prefix.Goals as goal
 
 read : (p : List ℕ) (h : Header) (k z : Key) → SizesFit p h
     → key_bits k ≡ fill 256 (take 0 (key_bits z) ++ take h.q (drop (8 * (10 + 2 * h.n)) (bits_of p)))

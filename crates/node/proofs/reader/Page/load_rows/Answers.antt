@@ -1,6 +1,6 @@
--- `node::reader::load_rows` meets its contract. The loop's invariant: the table has the first i entries in its rows,
+-- `node::reader::Page::load_rows` meets its contract. The loop's invariant: the table has the first i entries in its rows,
 -- `found` tells whether one of their keys is not above the one before, `before` is the last of them, and the next
--- separator starts at `start`. The measure is what is left of n.
+-- separator starts at `start`.
 -- Assumes nothing.
 use mathlib.Core.Bool.{Bool, false, cond, not, ◌||◌}
 use mathlib.Core.List.{List}
@@ -13,22 +13,23 @@ use Rattle.format.specs.Page.{each, entries, entry_of, key_of, pointer_of}
 use Rattle.keys.specs.declared.Key.{Key}
 use Rattle.keys.specs.Keys.{key_bits}
 use Rattle.rows.specs.Rows.{with_row, with_rows}
+use Rattle.rows.specs.declared.table.Row.{Row}
 use Rattle.shape.specs.declared.Header.{Header}
 use Rattle.shape.specs.Shape.{SizesFit, unordered}
 use Rattle.shape.proofs.TestsLaws.{start_first, start_next}
 use Rattle.node.proofs.RisingLaws.{Rising, rising_none, rising_more}
 use Rattle.node.proofs.LoadedLaws.{Filled, filled_none, filled_more, filled_length, filled_all}
 use Rattle.std.proofs.Common.{rules}
-use Rattle.node.proofs.reader.load_rows.Goals as goal
+use Rattle.node.proofs.reader.Page.load_rows.Goals as goal
 
-begin : (p t : List ℕ) → Filled (entry_of p) t 0 t
+begin : (p : List ℕ) (t : List Row) → Filled (entry_of p) t 0 t
 begin p t = filled_none (entry_of p) t
 
 begin_rising : (p : List ℕ) (k : Key) → Rising (key_of p) 0 k false
 begin_rising p k = rising_none (key_of p) k
 
 -- one entry more in its row
-more : (p t₀ t u : List ℕ) (i : ℕ) (k : Key) (x : ℕ) → Filled (entry_of p) t₀ i t → key_bits k ≡ key_of p i
+more : (p : List ℕ) (t₀ t u : List Row) (i : ℕ) (k : Key) (x : ℕ) → Filled (entry_of p) t₀ i t → key_bits k ≡ key_of p i
     → x ≡ pointer_of p i
     → u ≡ with_row t i (record { key = key_bits k; pointer = x }) i → Filled (entry_of p) t₀ (i + 1) u
 unfolding entry_of
@@ -41,7 +42,7 @@ higher : (p : List ℕ) (i : ℕ) (k l : Key) (b r : Bool) → Rising (key_of p)
     → r ≡ cond (eqb i 0) b (not (below (key_bits k) (key_bits l)) || b) → Rising (key_of p) (i + 1) l r
 higher p i k l b r so e er = rising_more (key_of p) i k l b r so e er
 
-all : (p t₀ t : List ℕ) (h : Header) (i : ℕ) → SizesFit p h → Filled (entry_of p) t₀ i t → i ≤ h.n → h.n ≤ i
+all : (p : List ℕ) (t₀ t : List Row) (h : Header) (i : ℕ) → SizesFit p h → Filled (entry_of p) t₀ i t → i ≤ h.n → h.n ≤ i
     → t ≡ with_rows t₀ 0 (entries p)
 unfolding entries
 all p t₀ t h i s f l l' =
@@ -55,51 +56,11 @@ all_rising p n i k b so l l' =
 
 ruleset laws = (start_first, start_next, begin, begin_rising, more, higher, filled_length, all, all_rising)
 
-pub prefix-shared-requires : goal.prefix-shared-requires
-prefix-shared-requires c = search (rules, laws)
-
-pub zero-before-requires : goal.zero-before-requires
-zero-before-requires c = search (rules, laws)
-
 pub loop-i-init : goal.loop-i-init
 loop-i-init c = search (rules, laws)
 
-pub cell-end-requires : goal.cell-end-requires
-cell-end-requires c = search (rules, laws)
-
-pub get_key-key-requires : goal.get_key-key-requires
-get_key-key-requires c = search (rules, laws)
-
-pub node_pointer-requires : goal.node_pointer-requires
-node_pointer-requires c = search (rules, laws)
-
-pub set_row-requires : goal.set_row-requires
-set_row-requires c = search (rules, laws)
-
-pub unrisen-found-requires : goal.unrisen-found-requires
-unrisen-found-requires c = search (rules, laws)
-
-pub overflow_add-i : goal.overflow_add-i
-overflow_add-i c = search (rules, laws)
-
-pub loop-i-smaller : goal.loop-i-smaller
-loop-i-smaller c = search (rules, laws)
-
 pub loop-i-preserved : goal.loop-i-preserved
-loop-i-preserved c = (
-  search rules,
-  search rules,
-  search (rules, start_next),
-  more _ _ _ _ _ _ _ c.loop-i.invariant.3
-      c.get_key-key.ensures.answer
-      c.node_pointer.ensures.answer
-      c.set_row.ensures.written,
-  higher _ _ _ _ _ _ c.loop-i.invariant.4
-      c.get_key-key.ensures.answer c.unrisen-found.ensures.answer,
-)
-
-pub shape_of-t : goal.shape_of-t
-shape_of-t c = search (rules, laws)
+loop-i-preserved c = search (rules, laws)
 
 pub returns : goal.returns
 returns c = search (rules, laws)

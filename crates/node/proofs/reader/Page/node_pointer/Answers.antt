@@ -1,4 +1,4 @@
--- `node::reader::node_pointer` meets its contract: the four bytes of pointer i, of which a page that fits has n.
+-- `node::reader::Page::node_pointer` meets its contract: the four bytes of pointer i, of which a page that fits has n.
 -- Assumes nothing.
 use mathlib.Core.List.{List}
 use mathlib.Core.Path.{◌≡◌, ap, ◌∙◌}
@@ -9,7 +9,7 @@ use Rattle.format.specs.Page.{pointer_of}
 use Rattle.shape.specs.declared.Header.{Header}
 use Rattle.shape.specs.Shape.{SizesFit}
 use Rattle.std.proofs.Common.{rules}
-use Rattle.node.proofs.reader.node_pointer.Goals as goal
+use Rattle.node.proofs.reader.Page.node_pointer.Goals as goal
 
 read : (p : List ℕ) (h : Header) (i r : ℕ) → SizesFit p h → r ≡ unle (take 4 (drop ((4096 - 4 * h.n) + 4 * i) p))
     → r ≡ pointer_of p i
