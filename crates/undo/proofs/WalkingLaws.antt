@@ -15,6 +15,7 @@ use Rattle.format.specs.Key.{below}
 use Rattle.format.specs.Page.{Entry}
 use Rattle.format.specs.Edit.{no_entry}
 use Rattle.format.specs.Edit.Edit.{Insert, Update}
+use Rattle.keys.specs.declared.Key.{Key}
 use Rattle.keys.specs.Keys.{key_bits}
 use Rattle.rows.specs.declared.table.Row.{Row}
 use Rattle.rows.specs.Rows.{zero_row, row_entry, row_key, row_pointer, rows}
@@ -83,33 +84,33 @@ module _ (w : Walk) (d : List ℕ) (base : List Row) (i : ℕ) (new : List Row) 
       let l : length (rows k new) ≤ j = omega (arith, length-rows k new) in
       by_meeting (e ∙ sym (ap (met (walking w d) entry_is j) (drop_of_length-le (rows k new) l)))
 
-  module _ (o : Row) (h : j < k) (eo : o ≡ get_or new j zero_row) where
-    head_is : drop j (rows k new) ≡ record { key = key_bits o.key; pointer = o.pointer } ∷ drop (suc j) (rows k new)
-    unfolding row_entry row_key row_pointer
+  module _ (o : Key) (h : j < k) (eo : key_bits o ≡ row_key new j) where
+    head_is : drop j (rows k new) ≡ record { key = key_bits o; pointer = row_pointer new j } ∷ drop (suc j) (rows k new)
+    unfolding row_entry
     head_is =
         drop-rows k new j h
-        ∙ ap (λ (x : Row). record { key = key_bits x.key; pointer = x.pointer } ∷ drop (suc j) (rows k new)) (sym eo)
+        ∙ ap (λ (x : List ℕ). record { key = x; pointer = row_pointer new j } ∷ drop (suc j) (rows k new)) (sym eo)
 
-    pub stepped_before : below (key_bits b.key) (key_bits o.key) ≡ true
+    pub stepped_before : below (key_bits b.key) (key_bits o) ≡ true
         → walking r d' ≡ othered (walking w d) j (Insert (key_bits b.key) b.pointer)
         → walking r d' ≡ stepped (walking w d) (row_entry base i) (rows k new)
     unfolding met entry_is
     stepped_before t e = by_meeting (e ∙ sym (ap (met (walking w d) entry_is j) head_is ∙ rw t))
 
-    pub stepped_kept : below (key_bits b.key) (key_bits o.key) ≡ false → o.pointer ≡ b.pointer
-        → walking r d' ≡ kept (walking w d) j
-        → walking r d' ≡ stepped (walking w d) (row_entry base i) (rows k new)
-    unfolding met entry_is
-    stepped_kept f s e =
-        let g : eqb o.pointer b.pointer ≡ true = eq-eqb o.pointer b.pointer s in
-        by_meeting (e ∙ sym (ap (met (walking w d) entry_is j) head_is ∙ rw (f, g)))
+    module _ (f : below (key_bits b.key) (key_bits o) ≡ false) (x : ℕ) (ex : x ≡ row_pointer new j) where
+      pub stepped_kept : x ≡ b.pointer → walking r d' ≡ kept (walking w d) j
+          → walking r d' ≡ stepped (walking w d) (row_entry base i) (rows k new)
+      unfolding met entry_is
+      stepped_kept s e =
+          let g : eqb (row_pointer new j) b.pointer ≡ true = eq-eqb (row_pointer new j) b.pointer (sym ex ∙ s) in
+          by_meeting (e ∙ sym (ap (met (walking w d) entry_is j) head_is ∙ rw (f, g)))
 
-    pub stepped_updated : below (key_bits b.key) (key_bits o.key) ≡ false → (o.pointer ≡ b.pointer → ⊥)
-        → walking r d' ≡ othered (walking w d) (j + 1) (Update j b.pointer)
-        → walking r d' ≡ stepped (walking w d) (row_entry base i) (rows k new)
-    unfolding met entry_is
-    stepped_updated f n e =
-        let g : eqb o.pointer b.pointer ≡ false = ne_eqb o.pointer b.pointer n in
-        by_meeting (e ∙ sym (ap (met (walking w d) entry_is j) head_is ∙ rw (f, g)))
+      pub stepped_updated : (x ≡ b.pointer → ⊥) → walking r d' ≡ othered (walking w d) (j + 1) (Update j b.pointer)
+          → walking r d' ≡ stepped (walking w d) (row_entry base i) (rows k new)
+      unfolding met entry_is
+      stepped_updated n e =
+          let g : eqb (row_pointer new j) b.pointer ≡ false =
+          ne_eqb (row_pointer new j) b.pointer (λ (z : row_pointer new j ≡ b.pointer). n (ex ∙ z)) in
+          by_meeting (e ∙ sym (ap (met (walking w d) entry_is j) head_is ∙ rw (f, g)))
 
 pub ruleset stepping = (stepped_end, stepped_before, stepped_kept, stepped_updated)

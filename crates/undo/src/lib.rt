@@ -90,11 +90,10 @@ impl Walk {
     {
         let Row { key, pointer, .. } = table::row_at(base, i);
         let j = skip(new, k, self.at, key);
-        let other = table::row_at(new, j);
-        if k <= j || key.less(other.key) {
+        if k <= j || key.less(table::key_of(new, j)) {
             return self.write(j, Edit::Insert(key, pointer), out);
         }
-        if other.pointer == pointer {
+        if table::pointer_of(new, j) == pointer {
             return self.keep(j, out);
         }
         self.write(j + 1, Edit::Update(j, pointer), out)
