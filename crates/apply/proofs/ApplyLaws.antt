@@ -8,11 +8,11 @@ use mathlib.Core.Bool.{Bool, true, false, cond, not, ◌&&◌, false≢true}
 use mathlib.Core.List.{List, [], ◌∷◌, ◌++◌}
 use mathlib.Core.Option.{Option, none, some, none-ne-some}
 use mathlib.Core.Path.{◌≡◌, refl, sym, ap, ap₂, subst, ◌∙◌}
-use Prim.Native.Nat.{ℕ, zero, suc, ◌+◌, ◌-◌, ◌/◌, ◌≤◌, ◌<◌, min}
+use Prim.Native.Nat.{ℕ, zero, suc, ◌+◌, ◌-◌, ◌≤◌, ◌<◌, min}
 use native.Mathlib.Nat.{add-zero, zero-add}
 use native.Mathlib.Numerals.{add-one}
 use native.Mathlib.Omega.{arith}
-use borrow.Author.Tests.{not-true, not-false, ne_eqb}
+use borrow.Author.Tests.{not-false, ne_eqb}
 use lib.Dec.{eqb, ltb}
 use lib.ListN.{length, take, drop, get_or, replicate, length-append, length-take, length-drop}
 use lib.Seq.{drop-cons, get_or-take, take_all}
@@ -39,8 +39,7 @@ use Rattle.format.specs.Normal.{keys}
 use Rattle.format.specs.Page.{Entry, each}
 use Rattle.format.specs.Refusals.{refusal_number, outcome_number}
 use Rattle.format.specs.declared.refusal.Refusal.{Refusal}
-use Rattle.format.specs.declared.refusal.Outcome.{Outcome}
-use Rattle.format.specs.declared.refusal.Outcome.TheVariants.{Done, Refused}
+use Rattle.std.specs.Prelude.{⊤, Option as Maybe, Some, None, Result, Ok, Err}
 use Rattle.facts.proofs.AnswerLaws.{and_left, and_right, first-none, first-append, first_stop, NoneHolds-first}
 use Rattle.facts.proofs.BitsLaws.{AllBelow-bits_of, AllBelow-drop}
 use Rattle.facts.proofs.EditLaws.{outside-keep, outside_update, any_outside_head, any_outside_tail}
@@ -48,10 +47,12 @@ use Rattle.facts.proofs.EntryLaws.{Ascending, AreKeys, AreKeys_at, ascending_nex
 use Rattle.facts.proofs.RecordLaws.{read_edits_written, read_record-bits}
 use Rattle.facts.proofs.RefusalLaws.{refusal_number_positive}
 use Rattle.rows.specs.Rows.{row_source, row_entry, rows, with_row}
+use Rattle.rows.specs.declared.table.Row.{Row}
 use Rattle.rows.proofs.RowsLaws.{AreKeys-rows, length-with_row, length-rows, rows_at, row_entry_same, row_entry_other, row_source_same, row_source_other}
 use Rattle.apply.specs.declared.State.{State}
 use Rattle.edits.specs.Record.{formed_in, read_tests}
 use Rattle.apply.specs.Apply.{
+  Left,
   up_from,
   sources_of,
   sources,
@@ -122,7 +123,7 @@ unfolding up_from
 length-up_from i zero = refl
 length-up_from i (suc n) = ap suc (length-up_from (suc i) n)
 
-run-paired : (base : List ℕ) (n i m : ℕ) → i + m ≤ n
+run-paired : (base : List Row) (n i m : ℕ) → i + m ≤ n
     → run base i m ≡ paired (take m (drop i (rows n base))) (up_from i m)
 unfolding run up_from paired
 run-paired base n i zero h = refl
@@ -149,7 +150,7 @@ length-sources_of b (Keep s e) o =
       length-up_from s (e - s),
     )
 
-module _ (base : List ℕ) (n : ℕ) where
+module _ (base : List Row) (n : ℕ) where
   length-made : (e : Edit) → outside n e ≡ false → length (made (rows n base) e) ≡ length (sources_of e)
   length-made e o = length-sources_of (rows n base) e (ap (λ (k : ℕ). outside k e) (length-rows n base) ∙ o)
 
@@ -186,7 +187,7 @@ module _ (base : List ℕ) (n : ℕ) where
 -- ---- what a pass leaves
 
 -- l is left by a pass over xs from row n of t on, of which front rises, and all do where asc says so
-pub record Passed (t : List ℕ) (n : ℕ) (xs front : List Item) (asc : Bool) (l : Laying) : Type 0 where
+pub record Passed (t : List Row) (n : ℕ) (xs front : List Item) (asc : Bool) (l : Laying) : Type 0 where
   pub table : l.table ≡ laid t n front
   pub rising : l.rising ≡ asc
   pub count : asc ≡ true → l.count ≡ n + length xs
@@ -241,7 +242,7 @@ pass_from (x ∷ xs) l u z = go (below l.last x.entry.key) refl (pass_from xs)
         (below l.last x.entry.key && ascending_from x.entry.key (entries_of xs))) (sym q)
         (rw e (record { table = refl; rising = refl; count = λ a. absurd (false≢true a) }))
 
-pass_start : (xs : List Item) (t : List ℕ)
+pass_start : (xs : List Item) (t : List Row)
     → Passed t 0 xs (rising_front xs) (ascending (entries_of xs)) (pass (starting t) xs)
 unfolding pass rising_front ascending entries_of laid starting
 pass_start [] t = record { table = refl; rising = refl; count = λ a. refl }
@@ -254,7 +255,7 @@ pass_start (x ∷ xs) t =
     rw (lay_one-first t x)
     (record { table = r.table; rising = r.rising; count = λ a. omega (arith, r.count a) })
   where
-    lay_one-first : (t : List ℕ) (x : Item)
+    lay_one-first : (t : List Row) (x : Item)
         → lay_one (record { table = t; count = 0; rising = true; last = replicate 256 0 }) x
         ≡ record { table = with_row t 0 x.entry x.source; count = 1; rising = true; last = x.entry.key }
     lay_one-first t x =
@@ -263,21 +264,21 @@ pass_start (x ∷ xs) t =
 
 -- ---- items in rows
 
-pub length-laid : (t : List ℕ) (i : ℕ) (xs : List Item) → length (laid t i xs) ≡ length t
+pub length-laid : (t : List Row) (i : ℕ) (xs : List Item) → length (laid t i xs) ≡ length t
 unfolding laid
 length-laid t i [] = refl
 length-laid t i (x ∷ xs) =
     length-laid (with_row t i x.entry x.source) (suc i) xs ∙ length-with_row t i x.entry x.source
 
 -- rows before the first of them are as they were
-row_entry_before : (t : List ℕ) (i : ℕ) (xs : List Item) (j : ℕ) → j < i → row_entry (laid t i xs) j ≡ row_entry t j
+row_entry_before : (t : List Row) (i : ℕ) (xs : List Item) (j : ℕ) → j < i → row_entry (laid t i xs) j ≡ row_entry t j
 unfolding laid
 row_entry_before t i [] j h = refl
 row_entry_before t i (x ∷ xs) j h =
     row_entry_before (with_row t i x.entry x.source) (suc i) xs j (omega arith)
     ∙ row_entry_other t i x.entry x.source j (λ q. omega arith)
 
-row_source_before : (t : List ℕ) (i : ℕ) (xs : List Item) (j : ℕ) → j < i → row_source (laid t i xs) j ≡ row_source t j
+row_source_before : (t : List Row) (i : ℕ) (xs : List Item) (j : ℕ) → j < i → row_source (laid t i xs) j ≡ row_source t j
 unfolding laid
 row_source_before t i [] j h = refl
 row_source_before t i (x ∷ xs) j h =
@@ -285,8 +286,8 @@ row_source_before t i (x ∷ xs) j h =
     ∙ row_source_other t i x.entry x.source j (λ q. omega arith)
 
 -- each item is in its row, where the table has it
-row_entry-laid : (t : List ℕ) (i : ℕ) (xs : List Item) (j : ℕ) → AreKeys (keys (entries_of xs)) → j < length xs
-    → i + j < length t / 6
+row_entry-laid : (t : List Row) (i : ℕ) (xs : List Item) (j : ℕ) → AreKeys (keys (entries_of xs)) → j < length xs
+    → i + j < length t
     → row_entry (laid t i xs) (i + j) ≡ get_or (entries_of xs) j no_entry
 unfolding laid entries_of AreKeys keys
 row_entry-laid t i [] j y h r = absurd (omega arith)
@@ -299,9 +300,9 @@ row_entry-laid t i (x ∷ xs) (suc j) y h r =
     let q : i + suc j ≡ suc i + j = omega arith in
     ap (row_entry (laid (with_row t i x.entry x.source) (suc i) xs)) q
     ∙ row_entry-laid (with_row t i x.entry x.source) (suc i) xs j y.1 (omega arith)
-    (subst (λ (n : ℕ). suc i + j < n / 6) (sym (length-with_row t i x.entry x.source)) (omega arith))
+    (subst (λ (n : ℕ). suc i + j < n) (sym (length-with_row t i x.entry x.source)) (omega arith))
 
-row_source-laid : (t : List ℕ) (i : ℕ) (xs : List Item) (j : ℕ) → j < length xs → i + j < length t / 6
+row_source-laid : (t : List Row) (i : ℕ) (xs : List Item) (j : ℕ) → j < length xs → i + j < length t
     → row_source (laid t i xs) (i + j) ≡ get_or (sources_in xs) j 0
 unfolding laid sources_in
 row_source-laid t i [] j h r = absurd (omega arith)
@@ -314,7 +315,7 @@ row_source-laid t i (x ∷ xs) (suc j) h r =
     let q : i + suc j ≡ suc i + j = omega arith in
     ap (row_source (laid (with_row t i x.entry x.source) (suc i) xs)) q
     ∙ row_source-laid (with_row t i x.entry x.source) (suc i) xs j (omega arith)
-    (subst (λ (n : ℕ). suc i + j < n / 6) (sym (length-with_row t i x.entry x.source)) (omega arith))
+    (subst (λ (n : ℕ). suc i + j < n) (sym (length-with_row t i x.entry x.source)) (omega arith))
 
 -- f at each of the first places of a list, up to r of them
 each_front {ℓ} : {X : Type ℓ} (xs : List X) (r : ℕ) (f : ℕ → X) (d : X)
@@ -327,13 +328,13 @@ each_front xs r f d h =
     let b : j < length xs = omega (arith, length-take r xs) in
     h j b a ∙ sym (get_or-take r xs j d a))
 
-module _ (t : List ℕ) (xs : List Item) where
+module _ (t : List Row) (xs : List Item) where
   pub rows-laid : AreKeys (keys (entries_of xs))
-      → rows (min (length xs) (length t / 6)) (laid t 0 xs) ≡ take (length t / 6) (entries_of xs)
+      → rows (min (length xs) (length t)) (laid t 0 xs) ≡ take (length t) (entries_of xs)
   unfolding rows
   rows-laid y =
-      ap (λ (n : ℕ). each (min n (length t / 6)) (row_entry (laid t 0 xs))) (sym (length_entries_of xs))
-      ∙ each_front (entries_of xs) (length t / 6) (row_entry (laid t 0 xs)) no_entry
+      ap (λ (n : ℕ). each (min n (length t)) (row_entry (laid t 0 xs))) (sym (length_entries_of xs))
+      ∙ each_front (entries_of xs) (length t) (row_entry (laid t 0 xs)) no_entry
       (λ j a b. ap (row_entry (laid t 0 xs)) (sym (zero-add j))
       ∙ row_entry-laid t 0 xs j y (omega (arith, length_entries_of xs)) (omega arith))
 
@@ -342,11 +343,11 @@ module _ (t : List ℕ) (xs : List Item) where
   length_sources_in [] = refl
   length_sources_in (y ∷ ys) = ap suc (length_sources_in ys)
 
-  pub sources-laid : each (min (length xs) (length t / 6)) (row_source (laid t 0 xs))
-      ≡ take (length t / 6) (sources_in xs)
+  pub sources-laid : each (min (length xs) (length t)) (row_source (laid t 0 xs))
+      ≡ take (length t) (sources_in xs)
   sources-laid =
-      ap (λ (n : ℕ). each (min n (length t / 6)) (row_source (laid t 0 xs))) (sym (length_sources_in xs))
-      ∙ each_front (sources_in xs) (length t / 6) (row_source (laid t 0 xs)) 0
+      ap (λ (n : ℕ). each (min n (length t)) (row_source (laid t 0 xs))) (sym (length_sources_in xs))
+      ∙ each_front (sources_in xs) (length t) (row_source (laid t 0 xs)) 0
       (λ j a b. ap (row_source (laid t 0 xs)) (sym (zero-add j))
       ∙ row_source-laid t 0 xs j (omega (arith, length_sources_in xs)) (omega arith))
 
@@ -427,28 +428,49 @@ module _ (b : List Entry) (s : List ℕ) where
   new_count_early r e =
       rw (first_stop (read_tests (length b) s) (refuse 13 (not (ascending (apply b (edits_of (read_record s))))) ∷ []) r e)
 
-  new_table_early : (t : List ℕ) (r : ℕ) → first (read_tests (length b) s) ≡ suc r → t ≡ new_table b s t
+  new_table_early : (t : List Row) (r : ℕ) → first (read_tests (length b) s) ≡ suc r → t ≡ new_table b s t
   unfolding new_table
   new_table_early t r e =
       let z : suc r ≡ 0 → ⊥ = λ q. omega arith in
       rw (e, ne_eqb (suc r) 0 z)
 
   -- not so refused
-  new_table_later : (t : List ℕ) → first (read_tests (length b) s) ≡ 0
+  new_table_later : (t : List Row) → first (read_tests (length b) s) ≡ 0
       → new_table b s t
       ≡ laid t 0 (rising_front (paired (apply b (edits_of (read_record s))) (sources (edits_of (read_record s)))))
   unfolding new_table
   new_table_later t e = rw e
 
+-- what a step's state and table tell the pass
+left_table : (t : List Row) (r : Maybe State) (x : Laying) → Left t r x → t ≡ x.table
+unfolding laying
+left_table t (Some l) x p = ap (λ (y : Laying). y.table) p
+left_table t None x p = p.0
+
+left_fallen : (t : List Row) (r : Maybe State) (x : Laying) → Left t r x → r ≡ None → x.rising ≡ false
+left_fallen t r x p z = (subst (λ (m : Maybe State). Left t m x) z p).1
+
+left_laying : (t : List Row) (r : Maybe State) (x : Laying) → Left t r x → (l : State) → r ≡ Some l → laying t l ≡ x
+left_laying t r x p l z = subst (λ (m : Maybe State). Left t m x) z p
+
+module _ (t : List Row) (l : State) (x : Laying) (e : laying t l ≡ x) where
+  left_rising : x.rising ≡ true
+  unfolding laying
+  left_rising = sym (ap (λ (y : Laying). y.rising) e)
+
+  left_count : l.n ≡ x.count
+  unfolding laying
+  left_count = ap (λ (y : Laying). y.count) e
+
 -- what the code knows where it answers
-module _ (n : ℕ) (base s t : List ℕ) (o : Outcome) (eo : outcome_number o ≡ first (read_tests n s)) where
+module _ (n : ℕ) (base : List Row) (s : List ℕ) (t : List Row) (o : Result ⊤ Refusal) (eo : outcome_number o ≡ first (read_tests n s)) where
   new : List Entry
   new = apply (rows n base) (edits_of (read_record s))
 
   tests_rows : first (read_tests (length (rows n base)) s) ≡ outcome_number o
   tests_rows = ap (λ (x : ℕ). first (read_tests x s)) (length-rows n base) ∙ sym eo
 
-  module _ (r : Refusal) (q : o ≡ Refused r) where
+  module _ (r : Refusal) (q : o ≡ Err r) where
     early : (k : ℕ) → refusal_number r ≡ k → 1 ≤ k
         → (Answer.Refused k ≡ new_count (rows n base) s) × (t ≡ new_table (rows n base) s t)
     early zero e h = absurd (omega arith)
@@ -462,7 +484,7 @@ module _ (n : ℕ) (base s t : List ℕ) (o : Outcome) (eo : outcome_number o �
     pub table_early : t ≡ new_table (rows n base) s t
     table_early = (early (refusal_number r) refl (refusal_number_positive r)).1
 
-  module _ (q : o ≡ Done) where
+  module _ (u : ⊤) (q : o ≡ Ok u) where
     none-refused : first (read_tests (length (rows n base)) s) ≡ 0
     none-refused = tests_rows ∙ ap outcome_number q
 
@@ -473,8 +495,10 @@ module _ (n : ℕ) (base s t : List ℕ) (o : Outcome) (eo : outcome_number o �
     unfolding formed_in
     formed_done = ap not told.formed
 
-    module _ (t' : List ℕ) (r : State)
-        (p : laying t' r ≡ pass (starting t) (items_in base (edits_of (read_record s)))) where
+    abbrev pub all : Laying
+    all = pass (starting t) (items_in base (edits_of (read_record s)))
+
+    module _ (t' : List Row) (r : Maybe State) (p : Left t' r all) where
       items : List Item
       items = paired new (sources (edits_of (read_record s)))
 
@@ -482,24 +506,23 @@ module _ (n : ℕ) (base s t : List ℕ) (o : Outcome) (eo : outcome_number o �
       unfolding new
       same_length = length-sources base n (edits_of (read_record s)) told.inside
 
-      passed : Passed t 0 items (rising_front items) (ascending (entries_of items)) (laying t' r)
-      unfolding items new
+      passed : Passed t 0 items (rising_front items) (ascending (entries_of items)) all
+      unfolding items new all
       passed =
           subst (Passed t 0 items (rising_front items) (ascending (entries_of items)))
-          (sym (p ∙ ap (pass (starting t)) (items_in-paired base n (edits_of (read_record s)) told.inside)))
+          (sym (ap (pass (starting t)) (items_in-paired base n (edits_of (read_record s)) told.inside)))
           (pass_start items t)
 
       entries_are : entries_of items ≡ new
       unfolding items
       entries_are = entries_of_paired new (sources (edits_of (read_record s))) same_length
 
-      rises : r.rising ≡ ascending new
-      unfolding laying
+      rises : all.rising ≡ ascending new
       rises = passed.rising ∙ ap ascending entries_are
 
       pub table_laid : t' ≡ new_table (rows n base) s t
-      unfolding laying items new
-      table_laid = passed.table ∙ sym (new_table_later (rows n base) s t none-refused)
+      unfolding items new
+      table_laid = left_table t' r all p ∙ passed.table ∙ sym (new_table_later (rows n base) s t none-refused)
 
       last_test : (b : Bool) → ascending new ≡ b → new_count (rows n base) s ≡ unless (cond (not b) 13 0) (length new)
       unfolding new_count record_tests first new
@@ -509,21 +532,23 @@ module _ (n : ℕ) (base s t : List ℕ) (o : Outcome) (eo : outcome_number o �
           (read_tests-none (length (rows n base)) s none-refused)
           ∙ ap (λ (x : Bool). first (refuse 13 (not x) ∷ [])) e)
 
-      pub answer_13 : not r.rising ≡ true → Answer.Refused 13 ≡ new_count (rows n base) s
+      pub answer_13 : r ≡ None → Answer.Refused 13 ≡ new_count (rows n base) s
       unfolding unless
-      answer_13 z = sym (last_test false (sym rises ∙ not-true r.rising z))
+      answer_13 z = sym (last_test false (sym rises ∙ left_fallen t' r all p z))
 
-      pub answer_count : not r.rising ≡ false → Answer.Value r.n ≡ new_count (rows n base) s
-      unfolding unless laying
-      answer_count z =
-          let a : ascending new ≡ true = sym rises ∙ not-false r.rising z in
-          let c : r.n ≡ 0 + length items = passed.count (ap ascending entries_are ∙ a) in
-          let d : r.n ≡ length new = omega (arith, length_entries_of items, ap length entries_are) in
+      pub answer_count : (l : State) → r ≡ Some l → Answer.Value l.n ≡ new_count (rows n base) s
+      unfolding unless
+      answer_count l z =
+          let m : laying t' l ≡ all = left_laying t' r all p l z in
+          let a : ascending new ≡ true = sym rises ∙ left_rising t' l all m in
+          let c : all.count ≡ 0 + length items = passed.count (ap ascending entries_are ∙ a) in
+          let d : l.n ≡ length new =
+          omega (arith, left_count t' l all m, length_entries_of items, ap length entries_are) in
           ap Answer.Value d ∙ sym (last_test true a)
 
 -- ---- what an answered count says
 
-pub length-new_table : (b : List Entry) (s t : List ℕ) → length (new_table b s t) ≡ length t
+pub length-new_table : (b : List Entry) (s : List ℕ) (t : List Row) → length (new_table b s t) ≡ length t
 unfolding new_table
 length-new_table b s t = go (eqb (first (read_tests (length b) s)) 0)
   where
@@ -536,7 +561,7 @@ length-new_table b s t = go (eqb (first (read_tests (length b) s)) 0)
     go false = refl
 
 -- k new entries were answered, over the base's first n rows: t' is the table, t what it was before
-pub record NewRows (n : ℕ) (base s t t' : List ℕ) (k : ℕ) : Type 0 where
+pub record NewRows (n : ℕ) (base : List Row) (s : List ℕ) (t t' : List Row) (k : ℕ) : Type 0 where
   pub formed : malformed (read_record s) ≡ false
   pub inside : any_outside n (edits_of (read_record s)) ≡ false
   pub edits : 1 ≤ length (edits_of (read_record s))
@@ -544,8 +569,8 @@ pub record NewRows (n : ℕ) (base s t t' : List ℕ) (k : ℕ) : Type 0 where
   pub rising : ascending (apply (rows n base) (edits_of (read_record s))) ≡ true
   pub are_keys : AreKeys (keys (apply (rows n base) (edits_of (read_record s))))
   pub size : length t' ≡ length t
-  pub entries : rows (min k (length t / 6)) t' ≡ take (length t / 6) (apply (rows n base) (edits_of (read_record s)))
-  pub from : each (min k (length t / 6)) (row_source t') ≡ take (length t / 6) (sources (edits_of (read_record s)))
+  pub entries : rows (min k (length t)) t' ≡ take (length t) (apply (rows n base) (edits_of (read_record s)))
+  pub from : each (min k (length t)) (row_source t') ≡ take (length t) (sources (edits_of (read_record s)))
 
 -- a count is answered where no test holds
 unless-value : (r v k : ℕ) → unless r v ≡ Answer.Value k → (r ≡ 0) × (k ≡ v)
@@ -553,7 +578,7 @@ unfolding unless
 unless-value zero v k e = (refl, let q : v ≡ k = cc in sym q)
 unless-value (suc r) v k e = let o : ◌≡◌ {A = ℕ} 0 1 = cc in absurd (omega arith)
 
-pub new_rows : (n : ℕ) (base s t : List ℕ) (k : ℕ) → new_count (rows n base) s ≡ Answer.Value k
+pub new_rows : (n : ℕ) (base : List Row) (s : List ℕ) (t : List Row) (k : ℕ) → new_count (rows n base) s ≡ Answer.Value k
     → NewRows n base s t (new_table (rows n base) s t) k
 unfolding new_count record_tests read_tests
 new_rows n base s t k e =
@@ -587,14 +612,14 @@ new_rows n base s t k e =
       are_keys = y;
       size = length-new_table (rows n base) s t;
       entries =
-          ap₂ (λ (m : ℕ) (u : List ℕ). rows (min m (length t / 6)) u) lx tb
-          ∙ rows-laid t xs (subst (λ (l : List Entry). AreKeys (keys l)) (sym ex) y) ∙ ap (take (length t / 6)) ex;
+          ap₂ (λ (m : ℕ) (u : List Row). rows (min m (length t)) u) lx tb
+          ∙ rows-laid t xs (subst (λ (l : List Entry). AreKeys (keys l)) (sym ex) y) ∙ ap (take (length t)) ex;
       from =
-          ap₂ (λ (m : ℕ) (u : List ℕ). each (min m (length t / 6)) (row_source u)) lx tb
-          ∙ sources-laid t xs ∙ ap (take (length t / 6)) (sources_in_paired new (sources es) l);
+          ap₂ (λ (m : ℕ) (u : List Row). each (min m (length t)) (row_source u)) lx tb
+          ∙ sources-laid t xs ∙ ap (take (length t)) (sources_in_paired new (sources es) l);
     }
 
-module _ (n : ℕ) (base s t t' : List ℕ) (k : ℕ) (r : NewRows n base s t t' k) where
+module _ (n : ℕ) (base : List Row) (s : List ℕ) (t t' : List Row) (k : ℕ) (r : NewRows n base s t t' k) where
   pub NewRows-ascending : Ascending (keys (apply (rows n base) (edits_of (read_record s))))
   NewRows-ascending =
       let new : List Entry = apply (rows n base) (edits_of (read_record s)) in
@@ -604,15 +629,15 @@ module _ (n : ℕ) (base s t t' : List ℕ) (k : ℕ) (r : NewRows n base s t t'
       }
 
   -- a table with room for all of them has them all
-  pub NewRows-rows : k ≤ length t / 6 → rows k t' ≡ apply (rows n base) (edits_of (read_record s))
+  pub NewRows-rows : k ≤ length t → rows k t' ≡ apply (rows n base) (edits_of (read_record s))
   NewRows-rows h =
       let new : List Entry = apply (rows n base) (edits_of (read_record s)) in
-      let e : min k (length t / 6) ≡ k = omega arith in
-      ap (λ (m : ℕ). rows m t') (sym e) ∙ r.entries ∙ take_all (length t / 6) new (omega (arith, r.count))
+      let e : min k (length t) ≡ k = omega arith in
+      ap (λ (m : ℕ). rows m t') (sym e) ∙ r.entries ∙ take_all (length t) new (omega (arith, r.count))
 
-  pub NewRows-sources : k ≤ length t / 6 → each k (row_source t') ≡ sources (edits_of (read_record s))
+  pub NewRows-sources : k ≤ length t → each k (row_source t') ≡ sources (edits_of (read_record s))
   NewRows-sources h =
       let es : List Edit = edits_of (read_record s) in
-      let e : min k (length t / 6) ≡ k = omega arith in
+      let e : min k (length t) ≡ k = omega arith in
       ap (λ (m : ℕ). each m (row_source t')) (sym e) ∙ r.from
-      ∙ take_all (length t / 6) (sources es) (omega (arith, r.count, length-sources base n es r.inside))
+      ∙ take_all (length t) (sources es) (omega (arith, r.count, length-sources base n es r.inside))

@@ -1,16 +1,11 @@
 -- An answer to a record is known by what it means: two that mean the same are one.
 -- Assumes nothing.
-use mathlib.Core.Path.{◌≡◌, sym, ap}
+use mathlib.Core.Path.{◌≡◌}
 use Prim.Native.Nat.{ℕ}
-use Rattle.format.specs.Answer.{Answer}
-use Rattle.facts.proofs.RefusalLaws.{refused_same, value-refused, value_or}
-use Rattle.apply.specs.declared.Edited.{Edited}
-use Rattle.apply.specs.declared.Edited.TheVariants.{Entries, Refused}
+use Rattle.std.specs.Prelude.{Result}
+use Rattle.format.specs.declared.refusal.Refusal.{Refusal}
+use Rattle.facts.proofs.RefusalLaws.{answer_of_inj}
 use Rattle.apply.specs.Apply.{edited_answer}
 
-pub edited_answer_inj : (a b : Edited) → edited_answer a ≡ edited_answer b → a ≡ b
-unfolding value_or
-edited_answer_inj (Entries x) (Entries y) e = ap (λ (v : Answer ℕ). Entries (value_or x v)) e
-edited_answer_inj (Entries x) (Refused s) e = absurd (value-refused x s e)
-edited_answer_inj (Refused r) (Entries y) e = absurd (value-refused y r (sym e))
-edited_answer_inj (Refused r) (Refused s) e = ap Refused (refused_same r s e)
+pub edited_answer_inj : (a b : Result ℕ Refusal) → edited_answer a ≡ edited_answer b → a ≡ b
+edited_answer_inj a b e = answer_of_inj (λ (n : ℕ). n) (λ x y q. q) a b e

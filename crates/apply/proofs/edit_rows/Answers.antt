@@ -7,29 +7,27 @@ use Rattle.apply.proofs.edit_rows.Goals as goal
 
 ruleset laws = (answer_early, table_early, formed_done, answer_13, answer_count, table_laid)
 
-pub check-requires : goal.check-requires
-check-requires c = search (rules, laws)
+pub returns-in_err-check-clause-answer : goal.returns-in_err-check-clause-answer
+returns-in_err-check-clause-answer c = search (rules, laws)
 
-pub enum_known-r : goal.enum_known-r
-enum_known-r c = search (rules, laws)
+pub returns-in_err-check-clause-written : goal.returns-in_err-check-clause-written
+returns-in_err-check-clause-written c = table_early _ _ _ _ _ c.check.ensures.answer _ c.in_err-check.was
 
-pub enum_told-1 : goal.enum_told-1
-enum_told-1 c = search (rules, laws)
+pub lay_all-requires : goal.lay_all-requires
+lay_all-requires c = formed_done _ c.args.base.now _ c.args.t.now _ c.check.ensures.answer _ c.in_ok-check.was
 
-pub lay_all-l-requires : goal.lay_all-l-requires
-lay_all-l-requires c = search (rules, laws)
+pub returns-in_default-clause-answer : goal.returns-in_default-clause-answer
+returns-in_default-clause-answer c =
+    answer_13 _ _ _ _ _ c.check.ensures.answer _ c.in_ok-check.was _ _ c.lay_all.ensures.answer c.in_default.is
 
-pub shape_of-t-then-not-l : goal.shape_of-t-then-not-l
-shape_of-t-then-not-l c = search (rules, laws)
+pub returns-in_default-clause-written : goal.returns-in_default-clause-written
+returns-in_default-clause-written c =
+    table_laid _ _ _ _ _ c.check.ensures.answer _ c.in_ok-check.was _ _ c.lay_all.ensures.answer
 
-pub returns-then-not-l : goal.returns-then-not-l
-returns-then-not-l c = search (rules, laws)
+pub returns-clause-answer : goal.returns-clause-answer
+returns-clause-answer c =
+    answer_count _ _ _ _ _ c.check.ensures.answer _ c.in_ok-check.was _ _ c.lay_all.ensures.answer _ c.in-Some.is
 
-pub returns-in-Refused : goal.returns-in-Refused
-returns-in-Refused c = search (rules, laws)
-
-pub shape_of-t : goal.shape_of-t
-shape_of-t c = search (rules, laws)
-
-pub returns-else-not-l : goal.returns-else-not-l
-returns-else-not-l c = search (rules, laws)
+pub returns-clause-written : goal.returns-clause-written
+returns-clause-written c =
+    table_laid _ _ _ _ _ c.check.ensures.answer _ c.in_ok-check.was _ _ c.lay_all.ensures.answer

@@ -2,14 +2,10 @@
 -- does (`Applying`), and one that fell leaves it as it is.
 -- Assumes nothing.
 use mathlib.Core.Path.{◌≡◌}
-use Prim.Native.Nat.{◌+◌, ◌-◌, ◌*◌, ◌≤◌, ◌<◌}
+use Prim.Native.Nat.{◌+◌, ◌*◌, ◌≤◌}
 use lib.ListN.{length}
 use Rattle.apply.proofs.PassLaws.{Applying}
 use Rattle.apply.proofs.lay_all.Given as goal
 
-abbrev pub invariant-loop-i : goal.invariant-loop-i
-invariant-loop-i l =
-    (length l.t ≡ length l.initial.t) × (l.i ≤ l.k) × (l.k < 1024) × (l.p ≤ 10 + 290 * l.i) × Applying l.s l.base l.initial.t l.k l.i l.p l.t l.l
-
-abbrev pub decreases-loop-i : goal.decreases-loop-i
-decreases-loop-i l = l.k - l.i
+abbrev pub invariant-loop : goal.invariant-loop
+invariant-loop l = (length l.t ≡ length l.initial.t) × (l.end ≤ 1024) × (l.p ≤ 10 + 290 * l.counter) × Applying l.s l.base l.initial.t l.end l.counter l.p l.t l.l
