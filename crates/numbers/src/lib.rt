@@ -11,7 +11,7 @@ ghost use Rattle.format.specs.Bits.{bytes_for, unle};
 pub fn over(a: usize, b: usize) -> usize
     ensures answer { result ≡ a - b }
 {
-    if a < b { 0 } else { a - b }
+    a.saturating_sub(b)
 }
 
 // The lesser of two.
@@ -19,57 +19,48 @@ pub fn least(a: usize, b: usize) -> usize
     ensures answer { result ≡ min a b }
     ensures bound { (result ≤ a) × (result ≤ b) }
 {
-    if a < b { a } else { b }
+    a.min(b)
 }
 
 // The bytes of at + len bits; the sum itself need not fit.
+#[tactic(auto, unfolding(format::specs::Bits::bytes_for))]
 pub fn bytes_for(at: usize, len: usize) -> usize
     ensures answer { result ≡ bytes_for (at + len) }
 {
-    at / 8 + len / 8 + (at % 8 + len % 8 + 7) / 8
+    at / 8 + len / 8 + (at % 8 + len % 8).div_ceil(8)
 }
 
 // A byte as a word.
 pub fn wide(x: u8) -> u64
     ensures answer { (result ≡ x) × (result < 256) }
 {
-    x as u64
+    u64::from(x)
 }
 
 // The byte at i.
 pub fn byte_at(s: &[u8], i: usize) -> u64
     ensures answer { (result ≡ get_or s.now i 0) × (result < 256) }
 {
-    if i < s.len() { wide(s[i]) } else { 0 }
+    u64::from(s.get(i).copied().unwrap_or(0))
 }
 
 // The two bytes from i on, least significant first.
 pub fn le_u16(s: &[u8], i: usize) -> usize
     ensures answer { (result ≡ unle (take 2 (drop i s.now))) × (result < 65536) }
 {
-    if i < over(s.len(), 1) {
-        return (wide(s[i]) + wide(s[i + 1]) * 0x100) as usize;
+    if i < s.len().saturating_sub(1) {
+        return usize::from(u16::from_le_bytes([s[i], s[i + 1]]));
     }
     byte_at(s, i) as usize
 }
 
-// The four bytes from i on, which are there, least significant first.
-fn le_four(s: &[u8], i: usize) -> u64
-    requires { i + 4 ≤ length s.now }
-    ensures answer { (result ≡ unle (take 4 (drop i s.now))) × (result < 2 ^ 32) }
-{
-    wide(s[i]) + wide(s[i + 1]) * 0x100 + wide(s[i + 2]) * 0x10000 + wide(s[i + 3]) * 0x1000000
-}
-
-// The four bytes from i on, least significant first.
+// The four bytes from i on, least significant first; near the end, by two and two.
 pub fn le_u32(s: &[u8], i: usize) -> u64
     ensures answer { (result ≡ unle (take 4 (drop i s.now))) × (result < 2 ^ 32) }
 {
-    if i < over(s.len(), 3) {
-        return le_four(s, i);
+    if i < s.len().saturating_sub(3) {
+        return u64::from(u32::from_le_bytes([s[i], s[i + 1], s[i + 2], s[i + 3]]));
     }
-    if i < s.len() {
-        return le_u16(s, i) as u64 + le_u16(s, i + 2) as u64 * 0x10000;
-    }
-    0
+    let j = i.min(s.len());
+    le_u16(s, j) as u64 + le_u16(s, j + 2) as u64 * 0x10000
 }
