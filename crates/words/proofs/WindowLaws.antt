@@ -177,7 +177,7 @@ unfolding bits
 spells_none s i = record { small = omega arith; same = sym (fill-zero (drop (8 * i) (bits_of s))) }
 
 -- those of j bytes, and k that follow
-pub spells_cat : (s : List ℕ) (i j k x y : ℕ) → Spells s i j x → Spells s (i + j) k y
+spells_cat : (s : List ℕ) (i j k x y : ℕ) → Spells s i j x → Spells s (i + j) k y
     → Spells s i (j + k) (x * 2 ^ (8 * k) + y)
 spells_cat s i j k x y a b =
     let e : 8 * j + 8 * k ≡ 8 * (j + k) = omega arith in
@@ -360,21 +360,3 @@ pub joined_all : (x k y : ℕ) → 64 ≤ k → bits 64 x ≡ take 64 (take k (b
 joined_all x k y h =
     sym (ap (λ (u : List ℕ). take 64 (u ++ bits 64 y)) (take_all k (bits 64 x) (omega (arith, length-bits 64 x)))
     ∙ take_at (bits 64 x) (bits 64 y) 64 (length-bits 64 x))
-
--- and nothing behind them
-pub first-bits : (x k : ℕ) → k < 64 → x < 2 ^ 64 → bits 64 (x - (x * 2 ^ k % 2 ^ 64) / 2 ^ k)
-    ≡ fill 64 (take k (bits 64 x))
-first-bits x k h l =
-    let k' : k ≤ 64 = omega arith in
-    let e : 64 ≡ k + (64 - k) = omega arith in
-    let A : List ℕ = bits k (x / 2 ^ (64 - k)) in
-    let lk : length A ≡ k = length-bits k (x / 2 ^ (64 - k)) in
-    let le : length A ≤ 64 = omega arith in
-    ap₂ bits e (cut x k k' l ∙ sym (add-zero (x / 2 ^ (64 - k) * 2 ^ (64 - k))))
-    ∙ bits_cat k (64 - k) (x / 2 ^ (64 - k)) 0 (pow_pos (64 - k)) ∙ ap (λ (z : List ℕ). A ++ z) (bits-zero (64 - k))
-    ∙ sym (ap (fill 64) (first_are x k k') ∙ fill_short 64 A le ∙ ap (λ (n : ℕ). A ++ replicate (64 - n) 0) lk)
-
-pub first_all : (x k : ℕ) → 64 ≤ k → bits 64 x ≡ fill 64 (take k (bits 64 x))
-first_all x k h =
-    sym (ap (fill 64) (take_all k (bits 64 x) (omega (arith, length-bits 64 x)))
-    ∙ fill_exact (bits 64 x) 64 (length-bits 64 x))

@@ -7,24 +7,12 @@ ghost use Rattle.std.specs.Prelude.{◌≡◌, ◌++◌, ◌+◌, ◌-◌, ◌*�
 ghost use Rattle.format.specs.Bits.{bits, bits_of, fill, pack};
 ghost use Rattle.words.specs.Words.{window_bits, with_first, with_word, word_bits};
 
-// The 32 bits of the four bytes from i on, which are there.
-fn four(s: &[u8], i: usize) -> u64
-    requires { i + 4 ≤ length s.now }
-    ensures answer { (bits 32 result ≡ fill 32 (drop (8 * i) (bits_of s.now)))
-        × (result < 2 ^ 32) }
-{
-    numbers::wide(s[i + 3])
-        + numbers::wide(s[i + 2]) * 0x100
-        + numbers::wide(s[i + 1]) * 0x10000
-        + numbers::wide(s[i]) * 0x1000000
-}
-
 // The 64 bits of the eight bytes from i on, which are there.
 fn eight(s: &[u8], i: usize) -> u64
     requires { i + 8 ≤ length s.now }
     ensures answer { bits 64 result ≡ fill 64 (drop (8 * i) (bits_of s.now)) }
 {
-    four(s, i + 4) + four(s, i) * 0x100000000
+    u64::from_be_bytes(s[i..i + 8].try_into().unwrap())
 }
 
 // The 64 bits of the eight bytes from i on, near the end.
@@ -32,11 +20,9 @@ fn near_end(s: &[u8], i: usize) -> u64
     requires { i < 2 ^ 63 }
     ensures answer { bits 64 result ≡ fill 64 (drop (8 * i) (bits_of s.now)) }
 {
-    let mut x: u64 = 0;
-    let mut k: usize = 0;
-    while k < 8 {
+    let mut x = 0;
+    for k in 0..8 {
         x = x * 0x100 + numbers::byte_at(s, i + k);
-        k += 1;
     }
     x
 }
@@ -54,7 +40,7 @@ fn nine(s: &[u8], i: usize, h: usize) -> u64
     requires { (i + 8 < length s.now) × (h < 8) }
     ensures answer { bits 64 result ≡ fill 64 (drop (8 * i + h) (bits_of s.now)) }
 {
-    shifted(eight(s, i), numbers::wide(s[i + 8]), h)
+    shifted(eight(s, i), u64::from(s[i + 8]), h)
 }
 
 // The 64 bits from bit h of byte i on, near the end.
@@ -92,7 +78,7 @@ fn at_end(s: &[u8], i: usize, h: usize) -> u64
 pub fn at_place(s: &[u8], i: usize, h: usize) -> u64
     ensures answer { bits 64 result ≡ fill 64 (drop (8 * i + h % 8) (bits_of s.now)) }
 {
-    if i < numbers::over(s.len(), 8) {
+    if i < s.len().saturating_sub(8) {
         return nine(s, i, h % 8);
     }
     at_end(s, i, h % 8)
@@ -110,11 +96,10 @@ pub fn at_bit(s: &[u8], start: usize, skip: usize) -> u64
 pub fn word_at(s: &[u8], i: usize) -> u64
     ensures answer { bits 64 result ≡ word_bits s.now i }
 {
-    let n = numbers::over(s.len(), 7);
-    if i < n {
-        return eight(s, i);
+    if s.len().saturating_sub(7) <= i {
+        return 0;
     }
-    0
+    eight(s, i)
 }
 
 // The 64 bits from bit `start` on, where the nine bytes from there on are in the slice; else zeros.
@@ -122,18 +107,14 @@ pub fn word_at(s: &[u8], i: usize) -> u64
 pub fn window(s: &[u8], start: usize) -> u64
     ensures answer { bits 64 result ≡ window_bits s.now start }
 {
-    let i = start / 8;
-    if i < numbers::over(s.len(), 8) {
-        return nine(s, i, start % 8);
-    }
-    0
+    window_at(s, start / 8, start)
 }
 
 // The same from bit h % 8 of byte i on.
 pub fn window_at(s: &[u8], i: usize, h: usize) -> u64
     ensures answer { bits 64 result ≡ window_bits s.now (8 * i + h % 8) }
 {
-    if i < numbers::over(s.len(), 8) {
+    if i < s.len().saturating_sub(8) {
         return nine(s, i, h % 8);
     }
     0
@@ -143,10 +124,7 @@ pub fn window_at(s: &[u8], i: usize, h: usize) -> u64
 pub fn first_bits(x: u64, k: usize) -> u64
     ensures answer { bits 64 result ≡ fill 64 (take k (bits 64 x)) }
 {
-    if 64 <= k {
-        return x;
-    }
-    x - (x << k >> k)
+    joined(x, k, 0)
 }
 
 // The first j bits of x, and those of y behind them; all of x where j is 64 or more.
@@ -179,25 +157,12 @@ pub fn across(x: u64, y: u64, h: usize) -> u64
     (x << (63 - h) << 1) + (y >> h)
 }
 
-// The 32 last bits of x in the four bytes from i on, which are there, most significant first.
-fn store_four(s: &mut [u8], i: usize, x: u64)
-    requires { i + 4 ≤ length s.old }
-    ensures written { s.new
-        ≡ take i s.old ++ pack 4 (bits 32 x) ++ drop (i + 4) s.old }
-{
-    s[i] = (x / 0x1000000 % 0x100) as u8;
-    s[i + 1] = (x / 0x10000 % 0x100) as u8;
-    s[i + 2] = (x / 0x100 % 0x100) as u8;
-    s[i + 3] = (x % 0x100) as u8;
-}
-
 // The word x in the eight bytes from i on, most significant first; nothing where they do not fit.
 pub fn store(s: &mut [u8], i: usize, x: u64)
     ensures written { s.new ≡ with_word s.old i x }
 {
-    if i < numbers::over(s.len(), 7) {
-        store_four(s, i, x / 0x100000000);
-        store_four(s, i + 4, x);
+    if i < s.len().saturating_sub(7) {
+        s[i..i + 8].copy_from_slice(&x.to_be_bytes());
     }
 }
 
@@ -205,7 +170,6 @@ pub fn store(s: &mut [u8], i: usize, x: u64)
 pub fn store_first(s: &mut [u8], x: u64)
     ensures written { s.new ≡ with_first s.old x }
 {
-    for k in 0..numbers::least(s.len(), 8) {
-        s[k] = ((x >> (56 - 8 * k)) % 0x100) as u8;
-    }
+    let n = s.len().min(8);
+    s[..n].copy_from_slice(&x.to_be_bytes()[..n]);
 }

@@ -9,17 +9,8 @@ ruleset laws = (across_lt, across-bits, across_all)
 pub returns-then-h-ge64 : goal.returns-then-h-ge64
 returns-then-h-ge64 c = search (rules, laws)
 
-pub overflow_sub-result : goal.overflow_sub-result
-overflow_sub-result c = search (rules, laws)
-
-pub overflow_shl-result : goal.overflow_shl-result
-overflow_shl-result c = search (rules, laws)
-
-pub overflow_shr-result : goal.overflow_shr-result
-overflow_shr-result c = search (rules, laws)
+pub returns : goal.returns
+returns c = search (rules, laws)
 
 pub overflow_add-result : goal.overflow_add-result
 overflow_add-result c = search (rules, laws)
-
-pub returns : goal.returns
-returns c = search (rules, laws)

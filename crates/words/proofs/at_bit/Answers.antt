@@ -16,17 +16,5 @@ at s start skip h r eh er =
     let e : 8 * (start / 8 + skip / 8 + h / 8) + h % 8 ≡ start + skip = omega arith in
     er ∙ ap (λ (k : ℕ). fill 64 (drop k (bits_of s))) e
 
-pub overflow_add-h : goal.overflow_add-h
-overflow_add-h c = search (rules, at)
-
-pub overflow_add-start : goal.overflow_add-start
-overflow_add-start c = search (rules, at)
-
-pub overflow_add-start-2 : goal.overflow_add-start-2
-overflow_add-start-2 c = search (rules, at)
-
-pub at_place-requires : goal.at_place-requires
-at_place-requires c = search (rules, at)
-
 pub returns : goal.returns
 returns c = search (rules, at)

@@ -14,15 +14,3 @@ past s i h l = bits_past s (8 * i + h) i h l refl
 
 pub returns-then-s-i : goal.returns-then-s-i
 returns-then-s-i c = search (rules, past)
-
-pub nine_near_end-requires : goal.nine_near_end-requires
-nine_near_end-requires c = search (rules, past)
-
-pub returns-then-s-lt8 : goal.returns-then-s-lt8
-returns-then-s-lt8 c = search (rules, past)
-
-pub last-requires : goal.last-requires
-last-requires c = search (rules, past)
-
-pub returns : goal.returns
-returns c = search (rules, past)

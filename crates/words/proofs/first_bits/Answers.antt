@@ -1,16 +1,18 @@
--- `words::first_bits` meets its contract: x less its bits from k on.
+-- `words::first_bits` meets its contract: behind the first bits stand those of 0 (`bits-zero`).
 -- Assumes nothing.
-use Rattle.words.proofs.WindowLaws.{cut_le, first-bits, first_all}
-use Rattle.std.proofs.Common.{rules}
+use mathlib.Core.List.{List, ◌++◌}
+use mathlib.Core.Path.{ap, ◌∙◌}
+use Prim.Native.Nat.{ℕ}
+use lib.ListN.{take}
+use Rattle.format.specs.Bits.{bits, fill}
+use Rattle.words.proofs.NumberLaws.{bits-zero}
 use Rattle.words.proofs.first_bits.Goals as goal
 
-ruleset laws = (cut_le, first-bits, first_all)
-
-pub returns-then-k-ge64 : goal.returns-then-k-ge64
-returns-then-k-ge64 c = search (rules, laws)
-
-pub overflow_sub-result : goal.overflow_sub-result
-overflow_sub-result c = search (rules, laws)
-
 pub returns : goal.returns
-returns c = search (rules, laws)
+unfolding fill
+returns c =
+    record {
+      answer =
+          c.joined.ensures.answer
+          ∙ ap (λ (l : List ℕ). take 64 (take c.args.k (bits 64 c.args.x) ++ l)) (bits-zero 64);
+    }

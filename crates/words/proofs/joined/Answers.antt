@@ -9,11 +9,8 @@ ruleset laws = (cut_le, joined-lt, joined-bits, joined_all)
 pub returns-then-j-ge64 : goal.returns-then-j-ge64
 returns-then-j-ge64 c = search (rules, laws)
 
-pub overflow_sub-result : goal.overflow_sub-result
-overflow_sub-result c = search (rules, laws)
+pub returns : goal.returns
+returns c = search (rules, laws)
 
 pub overflow_add-result : goal.overflow_add-result
 overflow_add-result c = search (rules, laws)
-
-pub returns : goal.returns
-returns c = search (rules, laws)

@@ -17,23 +17,5 @@ moved s i j h x ej l e hi hh ex =
     last-eight s i j h x (x * 2 ^ (8 * (i - j) + h) % 2 ^ 64) ej l (omega arith) hi hh ex
     (moved_bits (8 * (i - j) + h) x (omega arith))
 
-pub overflow_sub-j : goal.overflow_sub-j
-overflow_sub-j c = search (rules, moved)
-
-pub eight-requires : goal.eight-requires
-eight-requires c = search (rules, moved)
-
-pub overflow_sub-result : goal.overflow_sub-result
-overflow_sub-result c = search (rules, moved)
-
-pub overflow_mul-result : goal.overflow_mul-result
-overflow_mul-result c = search (rules, moved)
-
-pub overflow_add-result : goal.overflow_add-result
-overflow_add-result c = search (rules, moved)
-
-pub overflow_shl-result : goal.overflow_shl-result
-overflow_shl-result c = search (rules, moved)
-
 pub returns : goal.returns
 returns c = search (rules, moved)

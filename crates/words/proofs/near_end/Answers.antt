@@ -30,29 +30,17 @@ done s i k x a h h' =
 
 ruleset laws = (spells_none, spells_more, times, sum, done)
 
+pub loop-k-preserved : goal.loop-k-preserved
+loop-k-preserved c = search (rules, laws)
+
+pub returns : goal.returns
+returns c = search (rules, laws)
+
 pub loop-k-init : goal.loop-k-init
 loop-k-init c = search (rules, laws)
 
 pub overflow_mul-x : goal.overflow_mul-x
 overflow_mul-x c = search (rules, laws)
 
-pub overflow_add-i : goal.overflow_add-i
-overflow_add-i c = search (rules, laws)
-
-pub byte_at-requires : goal.byte_at-requires
-byte_at-requires c = search (rules, laws)
-
 pub overflow_add-x : goal.overflow_add-x
 overflow_add-x c = search (rules, laws)
-
-pub overflow_add-k : goal.overflow_add-k
-overflow_add-k c = search (rules, laws)
-
-pub loop-k-smaller : goal.loop-k-smaller
-loop-k-smaller c = search (rules, laws)
-
-pub loop-k-preserved : goal.loop-k-preserved
-loop-k-preserved c = search (rules, laws)
-
-pub returns : goal.returns
-returns c = search (rules, laws)

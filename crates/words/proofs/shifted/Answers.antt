@@ -53,8 +53,8 @@ module _ (x y h : ℕ) (l : h < 8) (ly : y < 256) where
 
 ruleset laws = (fits, are)
 
-pub overflow_add-result : goal.overflow_add-result
-overflow_add-result c = search (rules, laws)
-
 pub returns : goal.returns
 returns c = search (rules, laws)
+
+pub overflow_add-result : goal.overflow_add-result
+overflow_add-result c = search (rules, laws)

@@ -9,23 +9,8 @@ ruleset laws = (cut_le, spliced-lt, spliced-bits, spliced_all)
 pub returns-then-n-ge64 : goal.returns-then-n-ge64
 returns-then-n-ge64 c = search (rules, laws)
 
-pub overflow_shl-result : goal.overflow_shl-result
-overflow_shl-result c = search (rules, laws)
-
-pub overflow_shr-result : goal.overflow_shr-result
-overflow_shr-result c = search (rules, laws)
-
-pub overflow_sub-result : goal.overflow_sub-result
-overflow_sub-result c = search (rules, laws)
-
-pub overflow_shl-result-2 : goal.overflow_shl-result-2
-overflow_shl-result-2 c = search (rules, laws)
-
-pub overflow_shr-result-2 : goal.overflow_shr-result-2
-overflow_shr-result-2 c = search (rules, laws)
+pub returns : goal.returns
+returns c = search (rules, laws)
 
 pub overflow_add-result : goal.overflow_add-result
 overflow_add-result c = search (rules, laws)
-
-pub returns : goal.returns
-returns c = search (rules, laws)

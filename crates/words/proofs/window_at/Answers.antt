@@ -31,14 +31,8 @@ past s i h n en l =
 
 ruleset laws = (fits, past)
 
-pub over-requires : goal.over-requires
-over-requires c = search (rules, laws)
-
-pub nine-requires : goal.nine-requires
-nine-requires c = search (rules, laws)
-
-pub returns-then-i-over : goal.returns-then-i-over
-returns-then-i-over c = search (rules, laws)
+pub returns-then-i-saturating_sub : goal.returns-then-i-saturating_sub
+returns-then-i-saturating_sub c = search (rules, laws)
 
 pub returns : goal.returns
 returns c = search (rules, laws)

@@ -21,14 +21,8 @@ past s i n e h = bits-zero 64 ∙ sym (word_bits_out s i (omega arith))
 
 ruleset laws = (there, past)
 
-pub over-n-requires : goal.over-n-requires
-over-n-requires c = search (rules, laws)
-
-pub eight-requires : goal.eight-requires
-eight-requires c = search (rules, laws)
-
-pub returns-then-i-n : goal.returns-then-i-n
-returns-then-i-n c = search (rules, laws)
+pub returns-then-saturating_sub-i : goal.returns-then-saturating_sub-i
+returns-then-saturating_sub-i c = search (rules, laws)
 
 pub returns : goal.returns
 returns c = search (rules, laws)
