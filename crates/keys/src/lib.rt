@@ -7,7 +7,10 @@ ghost use Rattle.format.specs.Bits.{bits, bits_of, fill, pack};
 ghost use Rattle.format.specs.Key.{separator_length, shared_bits, below};
 ghost use Rattle.keys.specs.Keys.{key_bits};
 
-#[derive(Clone, Copy, Debug, Default, PartialEq, Eq)]
+use std::fmt;
+
+// Keys are in the order of their words, the first word first.
+#[derive(Clone, Copy, Debug, Default, PartialEq, Eq, PartialOrd, Ord)]
 pub struct Key {
     pub a: u64,
     pub b: u64,
@@ -21,12 +24,12 @@ fn word_of(x: u64, lo: usize, q: usize, s: &[u8], start: usize, len: usize) -> u
     ensures answer { bits 64 result ≡ fill 64 (take (q - lo) (bits 64 x)
         ++ take (len - (lo - q)) (drop (start + (lo - q)) (bits_of s.now))) }
 {
-    let kept = numbers::over(q, lo);
+    let kept = q.saturating_sub(lo);
     if 64 <= kept {
         return x;
     }
-    let skip = numbers::over(lo, q);
-    let left = numbers::over(len, skip);
+    let skip = lo.saturating_sub(q);
+    let left = len.saturating_sub(skip);
     if left == 0 {
         return words::first_bits(x, kept);
     }
@@ -42,31 +45,26 @@ impl Key {
     pub fn zero() -> Self
         ensures answer { key_bits result ≡ replicate 256 0 }
     {
-        Key {
-            a: 0,
-            b: 0,
-            c: 0,
-            d: 0,
-        }
+        Key::default()
     }
 
     // Separator length: 256 less the zero bits at the key's end, and 1 for the key of zeros.
     pub fn separator_len(self) -> usize
         ensures answer { (result ≡ separator_length (key_bits self)) × (1 ≤ result) × (result ≤ 256) }
     {
-        let d = u64::trailing_zeros(self.d) as usize;
+        let d = self.d.trailing_zeros() as usize;
         if d < 64 {
             return 256 - d;
         }
-        let c = u64::trailing_zeros(self.c) as usize;
+        let c = self.c.trailing_zeros() as usize;
         if c < 64 {
             return 192 - c;
         }
-        let b = u64::trailing_zeros(self.b) as usize;
+        let b = self.b.trailing_zeros() as usize;
         if b < 64 {
             return 128 - b;
         }
-        let a = u64::trailing_zeros(self.a) as usize;
+        let a = self.a.trailing_zeros() as usize;
         if a < 64 {
             return 64 - a;
         }
@@ -78,16 +76,16 @@ impl Key {
         ensures answer { (result ≡ shared_bits (key_bits self) (key_bits o)) × (result ≤ 256) }
     {
         if self.a != o.a {
-            return u64::leading_zeros(self.a ^ o.a) as usize;
+            return (self.a ^ o.a).leading_zeros() as usize;
         }
         if self.b != o.b {
-            return 64 + u64::leading_zeros(self.b ^ o.b) as usize;
+            return 64 + (self.b ^ o.b).leading_zeros() as usize;
         }
         if self.c != o.c {
-            return 128 + u64::leading_zeros(self.c ^ o.c) as usize;
+            return 128 + (self.c ^ o.c).leading_zeros() as usize;
         }
         if self.d != o.d {
-            return 192 + u64::leading_zeros(self.d ^ o.d) as usize;
+            return 192 + (self.d ^ o.d).leading_zeros() as usize;
         }
         256
     }
@@ -96,16 +94,7 @@ impl Key {
     pub fn less(self, o: Key) -> bool
         ensures answer { result ≡ below (key_bits self) (key_bits o) }
     {
-        if self.a != o.a {
-            return self.a < o.a;
-        }
-        if self.b != o.b {
-            return self.b < o.b;
-        }
-        if self.c != o.c {
-            return self.c < o.c;
-        }
-        self.d < o.d
+        self < o
     }
 
     // The first q bits of this key, len bits of s from bit `start` on, and zeros up to 256.
@@ -126,18 +115,12 @@ impl Key {
         ensures answer { key_bits result ≡ fill 256 (take q (key_bits self)
             ++ take len (drop start (bits_of s.now))) }
     {
-        if q <= 64 {
-            if len <= 64 - q {
-                if start / 8 < numbers::over(s.len(), 8) {
-                    let bits = words::first_bits(words::window(s, start), len);
-                    return Key {
-                        a: words::joined(self.a, q, bits),
-                        b: 0,
-                        c: 0,
-                        d: 0,
-                    };
-                }
-            }
+        if q <= 64 && len <= 64 - q && start / 8 < s.len().saturating_sub(8) {
+            let bits = words::first_bits(words::window(s, start), len);
+            return Key {
+                a: words::joined(self.a, q, bits),
+                ..Key::default()
+            };
         }
         self.with_bits(q, s, start, len)
     }
@@ -146,12 +129,11 @@ impl Key {
     pub fn from_bytes(bytes: &[u8; 32]) -> Self
         ensures answer { key_bits result ≡ bits_of bytes.now }
     {
-        let s = &bytes[..];
         Key {
-            a: words::at_bit(s, 0, 0),
-            b: words::at_bit(s, 64, 0),
-            c: words::at_bit(s, 128, 0),
-            d: words::at_bit(s, 192, 0),
+            a: words::at_bit(bytes, 0, 0),
+            b: words::at_bit(bytes, 64, 0),
+            c: words::at_bit(bytes, 128, 0),
+            d: words::at_bit(bytes, 192, 0),
         }
     }
 
@@ -159,10 +141,20 @@ impl Key {
     pub fn to_bytes(self, out: &mut [u8; 32])
         ensures written { out.new ≡ pack 32 (key_bits self) }
     {
-        *out = [0u8; 32];
         words::store(out, 0, self.a);
         words::store(out, 8, self.b);
         words::store(out, 16, self.c);
         words::store(out, 24, self.d);
+    }
+}
+
+// The 64 hexadecimal digits of a key.
+impl fmt::Display for Key {
+    fn fmt<W: fmt::Write>(&self, f: &mut fmt::Formatter<W>) -> fmt::Result {
+        write!(
+            f,
+            "{:016x}{:016x}{:016x}{:016x}",
+            self.a, self.b, self.c, self.d
+        )
     }
 }

@@ -5,8 +5,6 @@ use mathlib.Core.List.{List, [], ◌++◌, append-nil}
 use mathlib.Core.Path.{◌≡◌, sym, ap, ap₂, ◌∙◌}
 use Prim.Native.Nat.{ℕ, ◌+◌, ◌^◌, ◌≤◌, ◌<◌}
 use native.Mathlib.Omega.{arith}
-use mir.Syntax.{w64}
-use mir.Val.{Fits}
 use lib.Bits.{bit_xor}
 use lib.Count.{count_leading_zeros, leading_le}
 use Rattle.format.specs.Bits.{bits}
@@ -74,18 +72,6 @@ module _ (k o : Key) where
             ∙ length-bits 64 o.d in
             omega (arith, past_c)
 
-counted : (w : ℕ) → Fits w64 (count_leading_zeros 64 w)
-counted w = omega (arith, leading_le 64 w)
-
-room_b : (w : ℕ) → Fits w64 (64 + count_leading_zeros 64 w)
-room_b w = omega (arith, leading_le 64 w)
-
-room_c : (w : ℕ) → Fits w64 (128 + count_leading_zeros 64 w)
-room_c w = omega (arith, leading_le 64 w)
-
-room_d : (w : ℕ) → Fits w64 (192 + count_leading_zeros 64 w)
-room_d w = omega (arith, leading_le 64 w)
-
 most_a : (w : ℕ) → count_leading_zeros 64 w ≤ 256
 most_a w = omega (arith, leading_le 64 w)
 
@@ -99,37 +85,16 @@ most_d : (w : ℕ) → 192 + count_leading_zeros 64 w ≤ 256
 most_d w = omega (arith, leading_le 64 w)
 
 ruleset laws =
-    (differ_a, differ_b, differ_c, differ_d, equal, counted, room_b, room_c, room_d, most_a, most_b, most_c, most_d)
-
-pub overflow_cast-result : goal.overflow_cast-result
-overflow_cast-result c = search (rules, laws)
+    (differ_a, differ_b, differ_c, differ_d, equal, most_a, most_b, most_c, most_d)
 
 pub returns-then-self-o : goal.returns-then-self-o
 returns-then-self-o c = search (rules, laws)
 
-pub overflow_cast-result-then-self-o-2 : goal.overflow_cast-result-then-self-o-2
-overflow_cast-result-then-self-o-2 c = search (rules, laws)
-
-pub overflow_add-result : goal.overflow_add-result
-overflow_add-result c = search (rules, laws)
-
 pub returns-then-self-o-2 : goal.returns-then-self-o-2
 returns-then-self-o-2 c = search (rules, laws)
 
-pub overflow_cast-result-then-self-o-3 : goal.overflow_cast-result-then-self-o-3
-overflow_cast-result-then-self-o-3 c = search (rules, laws)
-
-pub overflow_add-result-then-self-o-3 : goal.overflow_add-result-then-self-o-3
-overflow_add-result-then-self-o-3 c = search (rules, laws)
-
 pub returns-then-self-o-3 : goal.returns-then-self-o-3
 returns-then-self-o-3 c = search (rules, laws)
-
-pub overflow_cast-result-then-self-o-4 : goal.overflow_cast-result-then-self-o-4
-overflow_cast-result-then-self-o-4 c = search (rules, laws)
-
-pub overflow_add-result-then-self-o-4 : goal.overflow_add-result-then-self-o-4
-overflow_add-result-then-self-o-4 c = search (rules, laws)
 
 pub returns-then-self-o-4 : goal.returns-then-self-o-4
 returns-then-self-o-4 c = search (rules, laws)

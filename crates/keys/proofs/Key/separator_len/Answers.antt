@@ -4,9 +4,7 @@ use mathlib.Core.List.{List, ◌++◌}
 use mathlib.Core.Path.{◌≡◌, ap, ◌∙◌}
 use Prim.Native.Nat.{ℕ, ◌-◌, ◌≤◌, ◌<◌}
 use native.Mathlib.Omega.{arith}
-use mir.Syntax.{w64}
-use mir.Val.{Fits}
-use lib.Count.{count_trailing_zeros, trailing_le}
+use lib.Count.{count_trailing_zeros}
 use lib.ListN.{length, length-append}
 use Rattle.format.specs.Bits.{bits}
 use Rattle.format.specs.Key.{last_set, separator_length}
@@ -71,31 +69,16 @@ module _ (k : Key) where
         unfolding separator_length
         none h = omega (arith, past_b)
 
-counted : (w : ℕ) → Fits w64 (count_trailing_zeros 64 w)
-counted w = omega (arith, trailing_le 64 w)
-
-ruleset laws = (in_a, in_b, in_c, in_d, none, counted)
-
-pub overflow_cast-d : goal.overflow_cast-d
-overflow_cast-d c = search (rules, laws)
+ruleset laws = (in_a, in_b, in_c, in_d, none)
 
 pub returns-then-d-lt64 : goal.returns-then-d-lt64
 returns-then-d-lt64 c = search (rules, laws)
 
-pub overflow_cast-c : goal.overflow_cast-c
-overflow_cast-c c = search (rules, laws)
-
 pub returns-then-c-lt64 : goal.returns-then-c-lt64
 returns-then-c-lt64 c = search (rules, laws)
 
-pub overflow_cast-b : goal.overflow_cast-b
-overflow_cast-b c = search (rules, laws)
-
 pub returns-then-b-lt64 : goal.returns-then-b-lt64
 returns-then-b-lt64 c = search (rules, laws)
-
-pub overflow_cast-a : goal.overflow_cast-a
-overflow_cast-a c = search (rules, laws)
 
 pub returns-then-a-lt64 : goal.returns-then-a-lt64
 returns-then-a-lt64 c = search (rules, laws)

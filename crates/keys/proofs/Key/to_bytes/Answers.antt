@@ -5,7 +5,7 @@ use mathlib.Core.List.{List, [], ◌++◌, append-nil}
 use mathlib.Core.Path.{◌≡◌, refl, ap, ap₂, ◌∙◌}
 use Prim.Native.Nat.{ℕ, ◌≤◌}
 use native.Mathlib.Omega.{arith}
-use lib.ListN.{length, drop, replicate, length-append, length-drop, drop_of_length-le}
+use lib.ListN.{length, drop, length-append, length-drop, drop_of_length-le}
 use Rattle.format.specs.Bits.{bits_of, pack, AllBelow}
 use Rattle.facts.proofs.BitsLaws.{packed, bits_of-append, AllBelow-append}
 use Rattle.keys.specs.declared.Key.{Key}
@@ -82,8 +82,5 @@ module _ (k : Key) where
       q4 ∙ ap (λ (x : List ℕ). bytes ++ x) (drop_of_length-le s3 l4) ∙ append-nil bytes
       ∙ packed bytes (key_bits k) AllBelow_bytes bits_of_bytes ∙ ap (λ (n : ℕ). pack n (key_bits k)) length_bytes
 
-zeros : length (replicate {A = ℕ} 32 0) ≡ 32
-zeros = refl
-
 pub returns : goal.returns
-returns c = search (rules, stored, zeros)
+returns c = search (rules, stored)
