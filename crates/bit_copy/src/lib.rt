@@ -8,16 +8,14 @@ ghost use Rattle.std.specs.Prelude.{◌≡◌};
 ghost use Rattle.format.specs.Ranges.{inside};
 ghost use Rattle.bit_copy.specs.Calls.{Copied};
 
-use format::refusal::{Outcome, Refusal};
+use crate::runs::Run;
+use format::refusal::Refusal;
 
 // Whether `len` bits from the bit `at` on lie inside `size` bytes.
 pub fn lies_inside(size: usize, at: usize, len: usize) -> bool
     ensures answer { result ≡ inside size at len }
 {
-    if len == 0 {
-        return true;
-    }
-    numbers::bytes_for(at, len) <= size
+    len == 0 || numbers::bytes_for(at, len) <= size
 }
 
 // Bit copy: the `bits` bits of dst from `dst_bit` on become those of src from `src_bit` on, and no
@@ -29,18 +27,15 @@ pub fn bitwise_memcpy(
     src: &[u8],
     src_bit: usize,
     bits: usize,
-) -> Outcome
+) -> Result<(), Refusal>
     ensures { Copied dst.old dst_bit src.now src_bit bits result dst.new }
 {
-    if !lies_inside(dst.len(), dst_bit, bits) {
-        return Outcome::Refused(Refusal::RangeOutside);
-    }
-    if !lies_inside(src.len(), src_bit, bits) {
-        return Outcome::Refused(Refusal::RangeOutside);
+    if !lies_inside(dst.len(), dst_bit, bits) || !lies_inside(src.len(), src_bit, bits) {
+        return Err(Refusal::RangeOutside);
     }
     if bits == 0 {
-        return Outcome::Done;
+        return Ok(());
     }
-    runs::copy_inside(dst, dst_bit, src, src_bit, bits);
-    Outcome::Done
+    runs::copy_inside(dst, dst_bit, Run::new(src, src_bit, bits));
+    Ok(())
 }

@@ -35,5 +35,5 @@ ruleset laws = (none, some_bits)
 pub returns-then-len-eq0 : goal.returns-then-len-eq0
 returns-then-len-eq0 c = search (rules, laws)
 
-pub returns : goal.returns
-returns c = search (rules, laws)
+pub returns-else-len-eq0 : goal.returns-else-len-eq0
+returns-else-len-eq0 c = search (rules, laws)

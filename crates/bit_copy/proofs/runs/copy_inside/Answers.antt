@@ -4,7 +4,7 @@
 use Rattle.std.proofs.Common.{rules}
 use Rattle.bit_copy.proofs.runs.copy_inside.Goals as goal
 use mathlib.Core.List.{List}
-use mathlib.Core.Path.{◌≡◌, subst, subst₂}
+use mathlib.Core.Path.{◌≡◌, ap₂, subst, subst₂}
 use Prim.Native.Nat.{ℕ, ◌+◌, ◌-◌, ◌*◌, ◌/◌, ◌%◌, ◌≤◌, ◌<◌, min}
 use native.Mathlib.Omega.{arith}
 use lib.ListN.{length, get_or}
@@ -14,40 +14,35 @@ use Rattle.format.specs.Ranges.{bits_copied}
 use Rattle.bit_copy.specs.Runs.{Moved}
 use Rattle.bit_copy.proofs.RunLaws.{moved_add, moved_bytes}
 
-module _ (d : List ℕ) (at : ℕ) (s : List ℕ) (from len : ℕ) where
-  all : (d' : List ℕ) → Moved d (8 * (at / 8) + at % 8) s (from + 0) len d' → length d' ≡ length d
-      → ((i : ℕ) → Fits w8 (get_or d' i 0))
-      → d' ≡ bits_copied d at s from len
-  all d' p l b =
+module _ (d : List ℕ) (at : ℕ) (s : List ℕ) (from skip len m : ℕ) (em : m ≡ min len (64 - at % 8)) (s1 : List ℕ)
+    (f1 k1 l1 : ℕ) (d' : List ℕ) (p : Moved d (8 * (at / 8) + at % 8) s1 (f1 + k1) l1 d') (es1 : s1 ≡ s) (ef1 : f1 ≡ from)
+    (ek1 : k1 ≡ skip) (el1 : l1 ≡ m) where
+  head : Moved d at s (from + skip) m d'
+  head =
       let ea : 8 * (at / 8) + at % 8 ≡ at = omega arith in
-      let ef : from + 0 ≡ from = omega arith in
-      moved_bytes d at s from len d' (subst₂ (λ (x y : ℕ). Moved d x s y len d') ea ef p) l b
+      subst₂ (λ (x : ℕ) (u : List ℕ). Moved d x u (from + skip) m d') ea es1
+      (subst₂ (λ (f k : ℕ). Moved d (8 * (at / 8) + at % 8) s1 f k d') (ap₂ ◌+◌ ef1 ek1) el1 p)
 
   -- in eight bytes
-  short : (m : ℕ) (d' : List ℕ) → Moved d (8 * (at / 8) + at % 8) s (from + 0) m d' → m ≡ min len (64 - at % 8)
-      → len ≤ m
-      → length d' ≡ length d
-      → ((i : ℕ) → Fits w8 (get_or d' i 0))
-      → d' ≡ bits_copied d at s from len
-  short m d' p em h l b =
+  short : len ≤ m → length d' ≡ length d → ((i : ℕ) → Fits w8 (get_or d' i 0)) → d' ≡ bits_copied d at s (from + skip) len
+  short h l b =
       let e : m ≡ len = omega arith in
-      all d' (subst (λ (k : ℕ). Moved d (8 * (at / 8) + at % 8) s (from + 0) k d') e p) l b
+      moved_bytes d at s (from + skip) len d' (subst (λ (k : ℕ). Moved d at s (from + skip) k d') e head) l b
 
   -- past them
-  long : (m : ℕ) (d' d'' : List ℕ) → Moved d (8 * (at / 8) + at % 8) s (from + 0) m d'
-      → Moved d' (8 * (at / 8 + 8)) s (from + m) (len - m) d''
-      → m ≡ min len (64 - at % 8)
-      → m < len → at + len ≤ 8 * length d → from + len ≤ 8 * length s → length d'' ≡ length d
-      → ((i : ℕ) → Fits w8 (get_or d'' i 0))
-      → d'' ≡ bits_copied d at s from len
-  long m d' d'' p q em h hd hs l b =
-      all d''
-      (moved_add d (8 * (at / 8) + at % 8) s (from + 0) m (len - m) d' d'' (8 * (at / 8 + 8)) (from + m) len p q
-      (omega arith) (omega arith) (omega arith) (omega arith) (omega arith))
+  long : (s2 : List ℕ) (f2 k2 l2 : ℕ) (d'' : List ℕ) → Moved d' (8 * (at / 8 + 8)) s2 (f2 + k2) l2 d'' → s2 ≡ s
+      → f2 ≡ from → k2 ≡ skip + m → l2 ≡ len - m → m < len → at + len ≤ 8 * length d
+      → from + skip + len ≤ 8 * length s → length d'' ≡ length d → ((i : ℕ) → Fits w8 (get_or d'' i 0))
+      → d'' ≡ bits_copied d at s (from + skip) len
+  long s2 f2 k2 l2 d'' q es2 ef2 ek2 el2 h hd hs l b =
+      moved_bytes d at s (from + skip) len d''
+      (moved_add d at s (from + skip) m l2 d' d'' (8 * (at / 8 + 8)) (f2 + k2) len head
+      (subst (λ (u : List ℕ). Moved d' (8 * (at / 8 + 8)) u (f2 + k2) l2 d'') es2 q)
+      (omega arith) (omega arith) (omega arith) hd hs)
       l b
 
-pub returns-then-head-len : goal.returns-then-head-len
-returns-then-head-len c = search (rules, long)
+pub returns-then-head-run : goal.returns-then-head-run
+returns-then-head-run c = search (rules, long)
 
-pub returns-else-head-len : goal.returns-else-head-len
-returns-else-head-len c = search (rules, short)
+pub returns-else-head-run : goal.returns-else-head-run
+returns-else-head-run c = search (rules, short)

@@ -11,15 +11,15 @@ use lib.ListN.{length}
 use Rattle.format.specs.Bits.{bits}
 use Rattle.words.specs.Words.{with_word, window_bits}
 use Rattle.bit_copy.specs.Runs.{Moved}
-use Rattle.bit_copy.proofs.RunLaws.{moved_none, moved_add}
+use Rattle.bit_copy.proofs.RunLaws.{moved_add}
 use Rattle.bit_copy.proofs.WordLaws.{moved_word}
 
-turn : (d : List ℕ) (to : ℕ) (s : List ℕ) (f h i n k x : ℕ) (d' d'' : List ℕ) → Moved d (8 * to) s f (64 * k) d'
+turn : (d : List ℕ) (to : ℕ) (s : List ℕ) (f h i k x : ℕ) (d' d'' : List ℕ) → Moved d (8 * to) s f (64 * k) d'
     → bits 64 x ≡ window_bits s (8 * (i + 8 * k) + h % 8) → d'' ≡ with_word d' (to + 8 * k) x
     → 8 * i + h % 8 ≡ f
-    → length d' ≡ length d → k < n → to + 8 * n ≤ length d → f + 64 * n < 8 * length s
+    → length d' ≡ length d → to + 8 * (k + 1) ≤ length d → f + 64 * (k + 1) < 8 * length s
     → Moved d (8 * to) s f (64 * (k + 1)) d''
-turn d to s f h i n k x d' d'' p ex e ef l hk hd hs =
+turn d to s f h i k x d' d'' p ex e ef l hd hs =
     let g : 8 * (i + 8 * k) + h % 8 ≡ f + 64 * k = omega arith in
     moved_add d (8 * to) s f (64 * k) 64 d' d'' (8 * (to + 8 * k)) (f + 64 * k) (64 * (k + 1)) p
     (moved_word d' s (to + 8 * k) (f + 64 * k) x d'' (omega arith) (omega arith) (ex ∙ ap (window_bits s) g) e)
@@ -31,20 +31,8 @@ end d at s f n k d' h h' p =
     let e : 64 * k ≡ 64 * n = omega arith in
     subst (λ (m : ℕ). Moved d at s f m d') e p
 
-pub loop-k-init : goal.loop-k-init
-loop-k-init c = search (rules, moved_none)
-
 pub loop-k-preserved : goal.loop-k-preserved
-loop-k-preserved c =
-    let inv = c.loop-k.invariant in (
-      search rules,
-      search rules,
-      inv.2,
-      inv.3,
-      inv.4,
-      turn _ _ _ _ _ _ _ _ _ _ _ inv.5 c.window_at-x.ensures.answer c.store.ensures.written inv.2 inv.1
-          c.loop-k-test.true inv.3 inv.4,
-    )
+loop-k-preserved c = search (rules, turn)
 
 pub returns : goal.returns
 returns c = search (rules, end)

@@ -1,8 +1,8 @@
--- `bit_copy::runs::with_bits` meets its contract: because behind the first bits of x stand those that were read, and
+-- `bit_copy::runs::Run::into_word` meets its contract: because behind the first bits of x stand those that were read, and
 -- behind n of them those of x again.
 -- Assumes nothing.
 use Rattle.std.proofs.Common.{rules}
-use Rattle.bit_copy.proofs.runs.with_bits.Goals as goal
+use Rattle.bit_copy.proofs.runs.Run.into_word.Goals as goal
 use mathlib.Core.List.{List, ◌++◌}
 use mathlib.Core.Path.{◌≡◌}
 use Prim.Native.Nat.{ℕ, ◌+◌, ◌*◌, ◌≤◌}
