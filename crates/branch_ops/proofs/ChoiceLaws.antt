@@ -24,6 +24,7 @@ use Rattle.facts.proofs.EntryLaws.{Ascending, first_key_at, keys_at, length-keys
 use Rattle.keys.specs.declared.Key.{Key}
 use Rattle.keys.specs.Keys.{key_bits}
 use Rattle.rows.specs.Rows.{row_key, row_entry, rows}
+use Rattle.rows.specs.declared.table.Row.{Row}
 use Rattle.rows.proofs.RowsLaws.{length-rows, rows_at}
 use Rattle.branch_ops.specs.declared.choice.Saving.{Saving}
 use Rattle.branch_ops.specs.Choice.{whole, better, saving_at, saving_from, one_pass, chosen_of}
@@ -114,7 +115,7 @@ chosen_of-nil : Answer.Value (record { m = 1; q = 0; bits = 0 }) ≡ chosen_of [
 unfolding chosen_of
 chosen_of-nil = refl
 
-module _ (t : List ℕ) (n : ℕ) where
+module _ (t : List Row) (n : ℕ) where
   length_row_keys : length (keys (rows n t)) ≡ n
   length_row_keys = length-keys (rows n t) ∙ length-rows n t
 

@@ -1,15 +1,15 @@
 -- The choice of the normal page, made in one pass over the keys. Document 01, "The normal page", and refusal 14.
--- In order: whole · better saving_at saving_from one_pass · chosen_of · choice_answer.
+-- In order: whole · better saving_at saving_from one_pass · chosen_of · choice_meant choice_answer.
 -- Assumes nothing.
-use Rattle.std.specs.Prelude.{cond, not, List, [], ◌∷◌, map, ℕ, ◌+◌, ◌-◌, ◌*◌, min, leb, length, drop}
+use Rattle.std.specs.Prelude.{cond, not, List, [], ◌∷◌, map, ℕ, ◌+◌, ◌-◌, ◌*◌, min, leb, length, drop, Result}
 use Rattle.format.specs.Answer.{Answer, refuse, first, unless}
 use Rattle.format.specs.Key.{separator_length, shared_bits}
 use Rattle.format.specs.Normal.{Choice, sum, first_key}
 use Rattle.format.specs.Page.{body_bytes}
-use Rattle.format.specs.Refusals.{refusal_number}
+use Rattle.format.specs.Refusals.{answer_of}
+use Rattle.format.specs.declared.refusal.Refusal.{Refusal}
 use Rattle.branch_ops.specs.declared.choice.Saving.{Saving}
-use Rattle.branch_ops.specs.declared.choice.Chosen.{Chosen}
-use Rattle.branch_ops.specs.declared.choice.Chosen.TheVariants.{Taken, Refused}
+use Rattle.branch_ops.specs.declared.choice.Choice.{Choice as Numbers}
 
 -- The separator lengths of all keys together.
 unfoldable pub whole : List (List ℕ) → ℕ
@@ -46,7 +46,10 @@ unfoldable pub chosen_of : List (List ℕ) → Answer Choice
 unfolding unless first body_bytes one_pass
 chosen_of ks = unless (first (refuse 14 (not (leb (body_bytes (length ks) 0 (one_pass ks).bits) 4086)) ∷ [])) (one_pass ks)
 
+-- The choice that the code's numbers stand for.
+abbrev pub choice_meant : Numbers → Choice
+choice_meant c = record { m = c.m; q = c.q; bits = c.bits }
+
 -- What the code's answer says: the choice, or the refusal's number.
-abbrev pub choice_answer : Chosen → Answer Choice
-choice_answer (Taken c) = Answer.Value (record { m = c.m; q = c.q; bits = c.bits })
-choice_answer (Refused r) = Answer.Refused (refusal_number r)
+abbrev pub choice_answer : Result Numbers Refusal → Answer Choice
+choice_answer r = answer_of choice_meant r

@@ -11,20 +11,14 @@ ghost use Rattle.branch_ops.specs.Choice.{better, choice_answer, chosen_of};
 use format::layout;
 use format::refusal::Refusal;
 use rows::table;
+use rows::table::Row;
 
 // How many entries leave the prefix out, its bits, and the bits of prefix and separators together.
-#[derive(Clone, Copy)]
+#[derive(Clone, Copy, Debug, PartialEq, Eq)]
 pub struct Choice {
     pub m: usize,
     pub q: usize,
     pub bits: usize,
-}
-
-// The choice taken, or why there is none. What it means: `choice_answer`.
-#[derive(Clone, Copy)]
-pub enum Chosen {
-    Taken(Choice),
-    Refused(Refusal),
 }
 
 // A choice, and how many bits it saves.
@@ -40,29 +34,26 @@ fn saved(i: usize, q: usize, first: usize) -> usize
     requires { (1 ≤ i) × (i ≤ 681) × (q ≤ 256) }
     ensures answer { result ≡ (i - 1) * q + min first q }
 {
-    (i - 1) * q + numbers::least(first, q)
+    (i - 1) * q + first.min(q)
 }
 
 // The choice that saves more; the second where both save alike.
 fn better_of(c: Saving, d: Saving) -> Saving
     ensures answer { result ≡ better c d }
 {
-    if c.bits <= d.bits {
-        return d;
-    }
-    c
+    if c.bits <= d.bits { d } else { c }
 }
 
 // The choice for the keys of t's first n rows; refused with 14 where its body bytes are over 4,086.
 // Of no rows it is m = 1, q = 0, 0 bits.
-pub fn choose(t: &[u64], n: usize) -> Chosen
+pub fn choose(t: &[Row], n: usize) -> Result<Choice, Refusal>
     ensures answer { choice_answer result ≡ chosen_of (keys (rows n t.now)) }
 {
     if layout::MOST_ENTRIES < n {
-        return Chosen::Refused(Refusal::NoRoom);
+        return Err(Refusal::NoRoom);
     }
     if n == 0 {
-        return Chosen::Taken(Choice {
+        return Ok(Choice {
             m: 1,
             q: 0,
             bits: 0,
@@ -76,29 +67,20 @@ pub fn choose(t: &[u64], n: usize) -> Chosen
         q: 0,
         bits: 0,
     };
-    let mut i: usize = 1;
-    while i < n {
+    for i in 1..n {
         let k = table::key_of(t, i);
         total += k.separator_len();
         let q = k0.prefix_len(k);
-        let gain = saved(i, q, first);
-        best = better_of(
-            best,
-            Saving {
-                m: i + 1,
-                q: q,
-                bits: gain,
-            },
-        );
-        i += 1;
+        let bits = saved(i, q, first);
+        best = better_of(best, Saving { m: i + 1, q, bits });
     }
-    let bits = numbers::over(total, best.bits);
+    let bits = total.saturating_sub(best.bits);
     if !shape::body_fits(n, 0, bits) {
-        return Chosen::Refused(Refusal::NoRoom);
+        return Err(Refusal::NoRoom);
     }
-    Chosen::Taken(Choice {
+    Ok(Choice {
         m: best.m,
         q: best.q,
-        bits: bits,
+        bits,
     })
 }

@@ -54,7 +54,7 @@ fn put_edit(d: &mut [u8], p: usize, e: Edit)
 }
 
 // How many edits are written, and the bit behind the last.
-#[derive(Clone, Copy)]
+#[derive(Clone, Copy, Debug, PartialEq, Eq)]
 pub struct RecordWriter {
     pub edits: usize,
     pub bit: usize,
@@ -78,7 +78,7 @@ impl RecordWriter {
             return self;
         }
         let size = e.size();
-        if numbers::least(d.len(), layout::LONGEST_RECORD) < numbers::bytes_for(self.bit, size) {
+        if d.len().min(layout::LONGEST_RECORD) < numbers::bytes_for(self.bit, size) {
             return self;
         }
         put_edit(d, self.bit, e);
@@ -96,11 +96,8 @@ impl RecordWriter {
         ensures written { d.new ≡ finished_bytes self d.old }
     {
         let size = numbers::bytes_for(self.bit, 0);
-        let room = numbers::least(d.len(), layout::LONGEST_RECORD);
-        if room < 2 {
-            return size;
-        }
-        if room < size {
+        let room = d.len().min(layout::LONGEST_RECORD);
+        if room < 2 || room < size {
             return size;
         }
         bits::put_number(d, self.bit, 8 * size - self.bit, 0);

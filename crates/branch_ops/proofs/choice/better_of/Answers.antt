@@ -1,13 +1,11 @@
--- `branch_ops::choice::better_of` meets its contract: its test is that of `better`.
+-- `branch_ops::choice::better_of` meets its contract, by its test.
 -- Assumes nothing.
-use Rattle.branch_ops.proofs.ChoiceLaws.{better-first, better_second}
+use Rattle.branch_ops.proofs.ChoiceLaws.{better_second, better-first}
 use Rattle.std.proofs.Common.{rules}
 use Rattle.branch_ops.proofs.choice.better_of.Goals as goal
 
-ruleset laws = (better-first, better_second)
-
 pub returns-then-c-d : goal.returns-then-c-d
-returns-then-c-d c = search (rules, laws)
+returns-then-c-d c = search (rules, better_second)
 
-pub returns : goal.returns
-returns c = search (rules, laws)
+pub returns-else-c-d : goal.returns-else-c-d
+returns-else-c-d c = search (rules, better-first)
