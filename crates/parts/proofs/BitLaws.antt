@@ -1,22 +1,24 @@
 -- Laws of bits in a slice.
--- In order: bits of a key copied; a word's first bits; a number's bits; a key's; bytes cleared; bits cleared.
+-- In order: bits of a key copied; a word's first bits; a number's bits; a key's; bits cleared.
 -- Assumes nothing.
 use mathlib.Core.Bool.{Bool, true, false, cond}
-use mathlib.Core.List.{List, [], ◌∷◌, ◌++◌, append_assoc, append-nil}
+use mathlib.Core.List.{List, [], ◌++◌, append_assoc, append-nil}
 use mathlib.Core.Path.{◌≡◌, refl, sym, ap, ap₂, ◌∙◌}
-use Prim.Native.Nat.{ℕ, zero, suc, ◌+◌, ◌-◌, ◌*◌, ◌/◌, ◌%◌, ◌^◌, ◌≤◌, ◌<◌}
+use Prim.Native.Nat.{ℕ, ◌+◌, ◌-◌, ◌*◌, ◌/◌, ◌%◌, ◌^◌, ◌≤◌, ◌<◌}
 use native.Mathlib.Omega.{arith}
+use Rattle.std.specs.Int.{to_be_bytes, w64}
 use mir.Syntax.{w8}
 use mir.Val.{Fits}
-use lib.ListN.{get_or, length, take, drop, set, length-set, replicate, length-replicate, replicate-append-replicate}
+use lib.ListN.{get_or, length, take, drop, replicate, length-replicate, replicate-append-replicate}
 use lib.ListN.{length-append, length-drop}
 use borrow.Author.Tests.{le-leb, lt-leb, ne_eqb}
-use lib.Seq.{drop-append-add, drop-append-le, drop-drop, paste, paste-zero, take_all, take-append-add, take-append-le, take-paste, take-suc-set}
+use lib.Seq.{drop-append-add, drop-append-le, drop-drop, paste, paste-zero, take_all, take-append-add, take-append-le, take-paste}
 use Rattle.format.specs.Answer.{afterwards, first, unless}
 use Rattle.format.specs.Bits.{bits, bits_of, fill, pack, bytes_for}
 use Rattle.format.specs.Key.{IsKey}
 use Rattle.format.specs.Ranges.{bit_copy, bits_copied, inside}
-use Rattle.format.specs.declared.refusal.Outcome.{Outcome}
+use Rattle.std.specs.Prelude.{⊤, Result}
+use Rattle.format.specs.declared.refusal.Refusal.{Refusal}
 use Rattle.facts.proofs.BitsLaws.{bits_of-append, bits_of-pack, bits_of_zeros, fill_exact, length-bits_of}
 use Rattle.facts.proofs.BitsLaws.{fill-take, length-bits, length-pack, take-fill, take_zeros}
 use Rattle.facts.proofs.BitsLaws.{AllBelow-bits_of, AllBelow-take, at_below, pack-bits_of, pack_zeros, packed}
@@ -28,7 +30,7 @@ use Rattle.bit_copy.proofs.WordLaws.{word_pasted, word_stored, joined_paste}
 use Rattle.words.specs.Words.{with_word, word_bytes, word_bits}
 use Rattle.words.proofs.NumberLaws.{drop_bits}
 use Rattle.words.proofs.WindowLaws.{moved_bits}
-use Rattle.words.proofs.WordsLaws.{with_word_in, length-with_word, bits_of-word_bytes, word_bits_in}
+use Rattle.words.proofs.WordsLaws.{length-word_bytes, word_bytes-is, length-with_word, bits_of-word_bytes, word_bits_in}
 use Rattle.keys.specs.declared.Key.{Key}
 use Rattle.keys.specs.Keys.{key_bits}
 use Rattle.keys.proofs.KeysLaws.{IsKey-key_bits, key_bits-words}
@@ -37,7 +39,7 @@ use Rattle.parts.specs.Parts.{with_key, with_first, with_number, cleared}
 -- ---- bits of a key copied
 
 -- between ranges that lie inside
-pub copied : (d : List ℕ) (at : ℕ) (s : List ℕ) (from n : ℕ) (r : Outcome) (d' : List ℕ) → Copied d at s from n r d'
+pub copied : (d : List ℕ) (at : ℕ) (s : List ℕ) (from n : ℕ) (r : Result ⊤ Refusal) (d' : List ℕ) → Copied d at s from n r d'
     → at + n ≤ 8 * length d
     → from + n ≤ 8 * length s
     → bits_of d' ≡ paste (bits_of d) at (drop from (bits_of s)) n
@@ -52,7 +54,7 @@ module _ (k b : List ℕ) (e : b ≡ pack 32 k) where
   length-key = ap length e ∙ length-pack 32 k
 
   -- what `put_key` leaves
-  pub copied_key : (d : List ℕ) (at from n : ℕ) (r : Outcome) (d' : List ℕ) → Copied d at b from n r d'
+  pub copied_key : (d : List ℕ) (at from n : ℕ) (r : Result ⊤ Refusal) (d' : List ℕ) → Copied d at b from n r d'
       → d' ≡ with_key d at k from n
   unfolding with_key
   copied_key d at from n r d' c = c.written ∙ ap (λ (x : List ℕ). afterwards (bit_copy d at x from n) (λ y. y) d) e
@@ -125,15 +127,14 @@ at_word d at n x d' e =
     e ∙ ap (λ (k : ℕ). paste (bits_of d) k (bits 64 x) n) a
 
 -- near the end: by eight bytes of their own
-pub by_bytes : (d : List ℕ) (at n x : ℕ) (w : List ℕ) (r : Outcome) (d' : List ℕ) → n ≤ 64 → at + n ≤ 8 * length d
-    → w ≡ with_word (replicate 8 0) 0 x → Copied d at w 0 n r d'
+pub by_bytes : (d : List ℕ) (at n x : ℕ) (w : List ℕ) (r : Result ⊤ Refusal) (d' : List ℕ) → n ≤ 64 → at + n ≤ 8 * length d
+    → w ≡ to_be_bytes w64 x → Copied d at w 0 n r d'
     → bits_of d' ≡ paste (bits_of d) at (bits 64 x) n
 by_bytes d at n x w r d' hn h e c =
-    let z : w ≡ word_bytes x ++ [] = e ∙ with_word_in (replicate 8 0) 0 x (omega arith) in
-    let l : length w ≡ 8 = ap length e ∙ length-with_word (replicate 8 0) 0 x in
+    let z : w ≡ word_bytes x = e ∙ word_bytes-is x in
+    let l : length w ≡ 8 = ap length z ∙ length-word_bytes x in
     copied d at w 0 n r d' c h (omega arith)
-    ∙ ap (λ (b : List ℕ). paste (bits_of d) at b n)
-    (ap bits_of (z ∙ append-nil (word_bytes x)) ∙ bits_of-word_bytes x)
+    ∙ ap (λ (b : List ℕ). paste (bits_of d) at b n) (ap bits_of z ∙ bits_of-word_bytes x)
 
 -- a key's words, each over two
 
@@ -340,48 +341,6 @@ module _ (d : List ℕ) (at : ℕ) (k : Key) (d' : List ℕ) where
       ∙ ap (λ (x : ℕ). pack x (paste (bits_of d) at (key_bits k) 256)) l
       ∙ sym (with_key-inside d at (key_bits k) 0 256 (IsKey-key_bits k) (omega arith) (omega arith)))
 
--- ---- bytes cleared
-
--- d is d₀ with zeros from the byte i up to the byte k
-pub record Cleared (d₀ : List ℕ) (i : ℕ) (d : List ℕ) (k : ℕ) : Type 0 where
-  pub from : i ≤ k
-  pub most : k ≤ length d₀
-  pub len : length d ≡ length d₀
-  pub done : take k d ≡ take i d₀ ++ replicate (k - i) 0
-
-pub clear_start : (d : List ℕ) (i : ℕ) → i ≤ length d → Cleared d i d i
-clear_start d i h = record { from = omega arith; most = h; len = refl; done = go (i - i) (omega arith) }
-  where
-    go : (n : ℕ) → n ≡ 0 → take i d ≡ take i d ++ replicate n 0
-    go n e = rw e (sym (append-nil (take i d)))
-
-snoc_zero : (n : ℕ) → replicate {A = ℕ} n 0 ++ (0 ∷ []) ≡ replicate (suc n) 0
-snoc_zero zero = refl
-snoc_zero (suc n) = ap (λ (r : List ℕ). 0 ∷ r) (snoc_zero n)
-
-pub clear_more : (d₀ : List ℕ) (i : ℕ) (d : List ℕ) (k : ℕ) → Cleared d₀ i d k → k < length d
-    → Cleared d₀ i (set d k 0) (k + 1)
-clear_more d₀ i d k c h =
-    let e : k + 1 ≡ suc k = omega arith in
-    let f : (k + 1) - i ≡ suc (k - i) = omega (arith, c.from) in
-    let t : take (suc k) (set d k 0) ≡ take k d ++ (0 ∷ []) = take-suc-set d k 0 h in
-    record {
-      from = omega (arith, c.from);
-      most = omega (arith, c.len);
-      len = length-set d k 0 ∙ c.len;
-      done =
-          ap (λ (x : ℕ). take x (set d k 0)) e ∙ t ∙ ap (λ (l : List ℕ). l ++ (0 ∷ [])) c.done
-          ∙ append_assoc (take i d₀) (replicate (k - i) 0) (0 ∷ [])
-          ∙ ap (λ (l : List ℕ). take i d₀ ++ l) (snoc_zero (k - i))
-          ∙ ap (λ (x : ℕ). take i d₀ ++ replicate x 0) (sym f);
-    }
-
-pub clear_end : (d₀ : List ℕ) (i : ℕ) (d : List ℕ) (k : ℕ) → Cleared d₀ i d k → length d ≤ k
-    → d ≡ take i d₀ ++ replicate (length d₀ - i) 0
-clear_end d₀ i d k c h =
-    let e : k ≡ length d₀ = omega (arith, c.most, c.len) in
-    sym (take_all k d h) ∙ c.done ∙ ap (λ (x : ℕ). take i d₀ ++ replicate (x - i) 0) e
-
 -- ---- bits cleared
 
 -- bytes up to j, then zeros
@@ -450,7 +409,7 @@ pub cleared-whole : (d d₂ : List ℕ) (at : ℕ) → at / 8 < length d → at 
 cleared-whole d d₂ at h z e l b = all_zeros d d₂ at l b (clear_whole d d₂ at (omega arith) z e)
 
 -- and from inside a byte
-pub cleared_part : (d d₁ d₂ : List ℕ) (at : ℕ) (r : Outcome) → at / 8 < length d → 0 < at % 8
+pub cleared_part : (d d₁ d₂ : List ℕ) (at : ℕ) (r : Result ⊤ Refusal) → at / 8 < length d → 0 < at % 8
     → Copied d at (replicate 1 0) 0 (8 - at % 8) r d₁
     → length d₁ ≡ length d
     → d₂ ≡ take (at / 8 + 1) d₁ ++ replicate (length d₁ - (at / 8 + 1)) 0

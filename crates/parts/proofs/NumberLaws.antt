@@ -2,49 +2,48 @@
 -- Assumes nothing.
 use mathlib.Core.List.{List, [], ◌∷◌, ◌++◌}
 use mathlib.Core.Path.{◌≡◌, refl, sym, ap, ap₂, ◌∙◌}
-use Prim.Native.Nat.{ℕ, suc, ◌+◌, ◌/◌, ◌%◌, ◌≤◌, ◌<◌}
+use native.Mathlib.Nat.{pow-suc, div-div-eq-div-mul}
+use Rattle.std.specs.Int.{w64, byte_at, bytes_low_first, to_le_bytes}
+use Rattle.std.proofs.lemmas.Slice.{put_mid-paste}
+use borrow.Rule.Slice.PartMut.{put_mid}
+use Prim.Native.Nat.{ℕ, zero, suc, ◌+◌, ◌-◌, ◌/◌, ◌%◌, ◌^◌, ◌≤◌, ◌<◌}
 use native.Mathlib.Omega.{arith}
 use borrow.Author.Tests.{le-leb, lt-leb}
-use lib.ListN.{length, take, drop, set, length-set}
+use lib.ListN.{length, take, drop}
 use lib.ListN.{length-append}
-use lib.Seq.{paste, sets-eq, take_all, take_at, drop_at, drop-drop}
+use lib.Seq.{paste, take_all, take_at, drop_at, drop-drop}
 use Rattle.format.specs.Bits.{le}
 use Rattle.facts.proofs.BitsLaws.{length-le}
 use Rattle.parts.specs.Parts.{header_bytes, with_header}
 
 -- ---- numbers
 
--- two bytes one after the other
-pub pair : (l : List ℕ) (i x : ℕ) → i + 2 ≤ length l
-    → set (set l i (x % 256)) (i + 1) (x / 256 % 256) ≡ paste l i (le 2 x) 2
+byte_at-is : (i n : ℕ) → byte_at i n ≡ n / 256 ^ i % 256
+byte_at-is zero n = omega arith
+byte_at-is (suc i) n = refl
+
+-- std's bytes of a number from the i-th on, lowest first
+low_first : (i k n : ℕ) → bytes_low_first i k n ≡ le k (n / 256 ^ i)
 unfolding le
-pair l i x h =
-    let e : i + 1 ≡ suc i = omega arith in
-    rw e (sets-eq (x % 256 ∷ x / 256 % 256 ∷ []) l i h)
+low_first i zero n = refl
+low_first i (suc k) n =
+    let e : n / 256 ^ suc i ≡ n / 256 ^ i / 256 =
+    ap (λ (m : ℕ). n / m) (pow-suc 256 i) ∙ sym (div-div-eq-div-mul n (256 ^ i) 256) in
+    ap₂ ◌∷◌ (byte_at-is i n) (low_first (suc i) k n ∙ ap (le k) e)
 
--- and four
-pub quad : (l : List ℕ) (i x : ℕ) → i + 4 ≤ length l
-    → set (set (set (set l i (x % 256)) (i + 1) (x / 256 % 256)) (i + 2) (x / 256 / 256 % 256)) (i + 3)
-    (x / 256 / 256 / 256 % 256)
-    ≡ paste l i (le 4 x) 4
+take-le : (w k n : ℕ) → w ≤ k → take w (le k n) ≡ le w n
 unfolding le
-quad l i x h =
-    let e : i + 1 ≡ suc i = omega arith in
-    let f : i + 2 ≡ suc (suc i) = omega arith in
-    let g : i + 3 ≡ suc (suc (suc i)) = omega arith in
-    rw (e, f, g) (sets-eq (x % 256 ∷ x / 256 % 256 ∷ x / 256 / 256 % 256 ∷ x / 256 / 256 / 256 % 256 ∷ []) l i h)
+take-le zero k n h = refl
+take-le (suc w) zero n h = absurd (omega arith)
+take-le (suc w) (suc k) n h = ap (λ (l : List ℕ). n % 256 ∷ l) (take-le w k (n / 256) (omega arith))
 
--- the bytes behind the first are there
-pub in_1 : (l : List ℕ) (i n a : ℕ) → i + n ≤ length l → 1 < n → i + 1 < length (set l i a)
-in_1 l i n a h k = omega (arith, length-set l i a)
-
-pub in_2 : (l : List ℕ) (i n j a b : ℕ) → i + n ≤ length l → 2 < n → i + 2 < length (set (set l i a) j b)
-in_2 l i n j a b h k = omega (arith, length-set l i a, length-set (set l i a) j b)
-
-pub in_3 : (l : List ℕ) (i n j k a b c : ℕ) → i + n ≤ length l → 3 < n
-    → i + 3 < length (set (set (set l i a) j b) k c)
-in_3 l i n j k a b c h m =
-    omega (arith, length-set l i a, length-set (set l i a) j b, length-set (set (set l i a) j b) k c)
+-- a number's first w bytes in their place
+pub stored : (w i x : ℕ) (d b ys : List ℕ) → w ≤ 8 → b ≡ to_le_bytes w64 x → ys ≡ take w b
+    → put_mid i ((i + w) - i) d ys ≡ paste d i (le w x) w
+stored w i x d b ys h eb e =
+    let z : x / 256 ^ 0 ≡ x = omega arith in
+    put_mid-paste i ((i + w) - i) d ys (le w x) w
+    (e ∙ ap (take w) (eb ∙ low_first 0 8 x ∙ ap (le 8) z) ∙ take-le w 8 x h) (omega arith) (sym (length-le w x))
 
 -- ---- fields one behind the other
 

@@ -14,6 +14,7 @@ use Rattle.format.specs.Key.{separator_length}
 use Rattle.format.specs.Normal.{words, running, sum, pointers}
 use Rattle.facts.proofs.BitsLaws.{length-le}
 use Rattle.facts.proofs.StoredLaws.{length-running, running_at, sum-take-suc}
+use Rattle.rows.specs.declared.table.Row.{Row}
 use Rattle.rows.specs.Rows.{row_key, row_pointer, rows}
 use Rattle.parts.specs.Parts.{left_out, row_lengths, stored_sum, with_offsets, with_pointers}
 use Rattle.parts.proofs.RowLaws.{length_row_pointers, row_pointers_at, length-row_lengths}
@@ -66,13 +67,13 @@ written_end w xs part i r e =
 -- ---- the sum of the stored lengths
 
 -- end is the sum of i of them
-pub record Summed (t : List ℕ) (n m q end i : ℕ) : Type 0 where
+pub record Summed (t : List Row) (n m q end i : ℕ) : Type 0 where
   pub most : i ≤ n
   pub small : n ≤ 681
   pub bound : end ≤ 256 * i
   pub is_sum : end ≡ sum (take i (row_lengths n t m q))
 
-module _ (t : List ℕ) (n m q : ℕ) where
+module _ (t : List Row) (n m q : ℕ) where
   pub summed_start : n ≤ 681 → Summed t n m q 0 0
   unfolding sum
   summed_start h = record { most = omega arith; small = h; bound = omega arith; is_sum = refl }
@@ -158,7 +159,7 @@ module _ (t : List ℕ) (n m q : ℕ) where
 
 -- ---- the pointers
 
-module _ (t : List ℕ) (n : ℕ) where
+module _ (t : List Row) (n : ℕ) where
   pub pointers_start_lem : (part : List ℕ) → length part ≡ 4 * n → Written 4 (pointers (rows n t)) part 0
   pointers_start_lem part e = written_start 4 (pointers (rows n t)) part (omega (arith, length_row_pointers n t))
 

@@ -15,6 +15,7 @@ use Rattle.format.specs.Page.{Entry}
 use Rattle.format.specs.Normal.{pointers, stored_lengths}
 use Rattle.facts.proofs.EntryLaws.{length-keys, length-pointers, keys_at, pointers_at}
 use Rattle.facts.proofs.StoredLaws.{length-stored_lengths, stored_lengths-compressed, stored_lengths_plain}
+use Rattle.rows.specs.declared.table.Row.{Row}
 use Rattle.rows.specs.Rows.{row_key, row_pointer, row_entry, rows}
 use Rattle.rows.proofs.RowsLaws.{length-rows, rows_at}
 use Rattle.parts.specs.Parts.{left_out, row_keys, row_lengths}
@@ -31,7 +32,7 @@ left_out_past m q i h = rw (le-ltb i m h)
 
 -- ---- keys and pointers
 
-module _ (n : ℕ) (t : List ℕ) where
+module _ (n : ℕ) (t : List Row) where
   pub length-row_keys : length (row_keys n t) ≡ n
   unfolding row_keys
   length-row_keys = length-keys (rows n t) ∙ length-rows n t

@@ -7,6 +7,7 @@ use Rattle.format.specs.Answer.{afterwards}
 use Rattle.format.specs.Bits.{bits, bits_of, le, pack}
 use Rattle.format.specs.Normal.{keys, pointers, stored_lengths, sum, running, words}
 use Rattle.format.specs.Ranges.{bit_copy, inside}
+use Rattle.rows.specs.declared.table.Row.{Row}
 use Rattle.rows.specs.Rows.{rows}
 
 -- How many bits of its key entry i leaves out: q below m, none from m on.
@@ -14,17 +15,17 @@ unfoldable pub left_out : ℕ → ℕ → ℕ → ℕ
 left_out m q i = cond (ltb i m) q 0
 
 -- The keys of a table's first n rows.
-unfoldable pub row_keys : ℕ → List ℕ → List (List ℕ)
+unfoldable pub row_keys : ℕ → List Row → List (List ℕ)
 unfolding keys rows
 row_keys n t = keys (rows n t)
 
 -- How many bits of each a page stores.
-unfoldable pub row_lengths : ℕ → List ℕ → ℕ → ℕ → List ℕ
+unfoldable pub row_lengths : ℕ → List Row → ℕ → ℕ → List ℕ
 unfolding stored_lengths row_keys
 row_lengths n t m q = stored_lengths m q (row_keys n t)
 
 -- How many bits of all; 0 for more rows than a page has.
-unfoldable pub stored_sum : List ℕ → ℕ → ℕ → ℕ → ℕ
+unfoldable pub stored_sum : List Row → ℕ → ℕ → ℕ → ℕ
 unfolding sum row_lengths
 stored_sum t n m q = cond (leb n 681) (sum (row_lengths n t m q)) 0
 
@@ -61,13 +62,13 @@ with_header d number n m q = cond (leb 10 (length d)) (header_bytes number n m q
 
 -- The end offsets, in place of a part of 2n bytes; a part of any other length as it is, and so where a page has not so
 -- many rows.
-unfoldable pub with_offsets : List ℕ → List ℕ → ℕ → ℕ → ℕ → List ℕ
+unfoldable pub with_offsets : List ℕ → List Row → ℕ → ℕ → ℕ → List ℕ
 unfolding words running row_lengths
 with_offsets part t n m q =
     cond (leb n 681 && eqb (length part) (2 * n)) (words 2 (running 0 (row_lengths n t m q))) part
 
 -- The pointers, in place of a part of 4n bytes; a part of any other length as it is, and so where a page has not so
 -- many rows.
-unfoldable pub with_pointers : List ℕ → List ℕ → ℕ → List ℕ
+unfoldable pub with_pointers : List ℕ → List Row → ℕ → List ℕ
 unfolding words pointers rows
 with_pointers part t n = cond (leb n 681 && eqb (length part) (4 * n)) (words 4 (pointers (rows n t))) part

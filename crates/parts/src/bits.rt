@@ -42,13 +42,11 @@ fn put_word(d: &mut [u8], at: usize, x: u64, n: usize)
         ≡ paste (bits_of d.old) at (bits 64 x) n }
 {
     let i = at / 8;
-    if i < numbers::over(d.len(), 15) {
+    if i < d.len().saturating_sub(15) {
         put_in_two(d, i, at % 8, x, n);
         return;
     }
-    let mut w = [0u8; 8];
-    words::store(&mut w, 0, x);
-    bit_copy::bitwise_memcpy(d, at, &w, 0, n);
+    let _ = bit_copy::bitwise_memcpy(d, at, &x.to_be_bytes(), 0, n);
 }
 
 // The first n bits of a word into d from the bit `at` on; nothing where they are not in d.
@@ -84,7 +82,7 @@ fn put_by_bytes(d: &mut [u8], at: usize, k: Key, from: usize, len: usize)
 {
     let mut bytes = [0u8; 32];
     k.to_bytes(&mut bytes);
-    bit_copy::bitwise_memcpy(d, at, &bytes, from, len);
+    let _ = bit_copy::bitwise_memcpy(d, at, &bytes, from, len);
 }
 
 // Copies `len` bits of a key from its bit `from` on to d from the bit `at` on; nothing where they
@@ -92,19 +90,13 @@ fn put_by_bytes(d: &mut [u8], at: usize, k: Key, from: usize, len: usize)
 pub fn put_key(d: &mut [u8], at: usize, k: Key, from: usize, len: usize)
     ensures written { d.new ≡ with_key d.old at (key_bits k) from len }
 {
-    if from < 64 {
-        if len <= 64 - from {
-            put_first(d, at, k.a << from, len);
-            return;
-        }
-        if len == 256 {
-            if from == 0 {
-                if at / 64 < numbers::over(d.len() / 8, 5) {
-                    put_whole(d, at / 8, at % 8, k);
-                    return;
-                }
-            }
-        }
+    if from < 64 && len <= 64 - from {
+        put_first(d, at, k.a << from, len);
+        return;
+    }
+    if from == 0 && len == 256 && at / 64 < (d.len() / 8).saturating_sub(5) {
+        put_whole(d, at / 8, at % 8, k);
+        return;
     }
     put_by_bytes(d, at, k, from, len);
 }
@@ -123,19 +115,6 @@ pub fn put_number(d: &mut [u8], at: usize, n: usize, x: u64)
     put_first(d, at, x << (64 - n), n);
 }
 
-// Zeros in the bytes from i on.
-fn clear_bytes(d: &mut [u8], i: usize)
-    requires { i ≤ length d.old }
-    ensures written { d.new
-        ≡ take i d.old ++ replicate (length d.old - i) 0 }
-{
-    let mut k = i;
-    while k < d.len() {
-        d[k] = 0;
-        k += 1;
-    }
-}
-
 // Zeros in the bits from `at` on: those of a byte that is begun, then whole bytes. Nothing where d
 // ends before.
 pub fn clear_from(d: &mut [u8], at: usize)
@@ -147,10 +126,9 @@ pub fn clear_from(d: &mut [u8], at: usize)
         return;
     }
     if 0 < h {
-        let zero = [0u8; 1];
-        bit_copy::bitwise_memcpy(d, at, &zero, 0, 8 - h);
-        clear_bytes(d, i + 1);
+        let _ = bit_copy::bitwise_memcpy(d, at, &[0], 0, 8 - h);
+        d[i + 1..].fill(0);
     } else {
-        clear_bytes(d, i);
+        d[i..].fill(0);
     }
 }

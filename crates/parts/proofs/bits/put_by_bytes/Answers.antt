@@ -6,17 +6,5 @@ use Rattle.parts.proofs.BitLaws.{length-key, copied_key}
 
 ruleset laws = (length-key, copied_key)
 
-pub to_bytes-requires : goal.to_bytes-requires
-to_bytes-requires c = search (rules, laws)
-
-pub slice_bounds-bitwise_memcpy-end : goal.slice_bounds-bitwise_memcpy-end
-slice_bounds-bitwise_memcpy-end c = search (rules, laws)
-
-pub bitwise_memcpy-requires : goal.bitwise_memcpy-requires
-bitwise_memcpy-requires c = search (rules, laws)
-
-pub shape_of-d : goal.shape_of-d
-shape_of-d c = search (rules, laws)
-
 pub returns : goal.returns
 returns c = search (rules, laws)

@@ -9,17 +9,11 @@ ruleset laws = (first-none, first_past, first_room, first-put)
 pub returns-then-n-eq0 : goal.returns-then-n-eq0
 returns-then-n-eq0 c = search (rules, laws)
 
-pub bytes_for-requires : goal.bytes_for-requires
-bytes_for-requires c = search (rules, laws)
-
 pub returns-then-d-bytes_for : goal.returns-then-d-bytes_for
 returns-then-d-bytes_for c = search (rules, laws)
 
-pub put_word-requires : goal.put_word-requires
-put_word-requires c = search (rules, laws)
-
-pub shape_of-d : goal.shape_of-d
-shape_of-d c = search (rules, laws)
-
 pub returns : goal.returns
 returns c = search (rules, laws)
+
+pub put_word-requires : goal.put_word-requires
+put_word-requires c = search (rules, laws)

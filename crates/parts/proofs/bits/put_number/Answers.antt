@@ -12,14 +12,5 @@ returns-then-n-gt64 c = search (rules, laws)
 pub returns-then-n-eq0 : goal.returns-then-n-eq0
 returns-then-n-eq0 c = search (rules, laws)
 
-pub overflow_shl-x : goal.overflow_shl-x
-overflow_shl-x c = search (rules, laws)
-
-pub put_first-requires : goal.put_first-requires
-put_first-requires c = search (rules, laws)
-
-pub shape_of-d : goal.shape_of-d
-shape_of-d c = search (rules, laws)
-
 pub returns : goal.returns
 returns c = search (rules, laws)

@@ -12,32 +12,8 @@ ruleset laws =
 pub returns-then-n-gt-MOST_ENTRIES : goal.returns-then-n-gt-MOST_ENTRIES
 returns-then-n-gt-MOST_ENTRIES c = search (rules, laws)
 
-pub overflow_mul-n : goal.overflow_mul-n
-overflow_mul-n c = search (rules, laws)
-
 pub returns-then-part-n : goal.returns-then-part-n
 returns-then-part-n c = search (rules, laws)
-
-pub loop-i-init : goal.loop-i-init
-loop-i-init c = search (rules, laws)
-
-pub stored_len-end-requires : goal.stored_len-end-requires
-stored_len-end-requires c = search (rules, laws)
-
-pub overflow_add-end : goal.overflow_add-end
-overflow_add-end c = search (rules, laws)
-
-pub overflow_mul-i : goal.overflow_mul-i
-overflow_mul-i c = search (rules, laws)
-
-pub put_pair-requires : goal.put_pair-requires
-put_pair-requires c = search (rules, laws)
-
-pub overflow_add-i : goal.overflow_add-i
-overflow_add-i c = search (rules, laws)
-
-pub loop-i-smaller : goal.loop-i-smaller
-loop-i-smaller c = search (rules, laws)
 
 pub loop-i-preserved : goal.loop-i-preserved
 loop-i-preserved c = (
@@ -45,11 +21,11 @@ loop-i-preserved c = (
   search rules,
   search (rules, laws),
   offsets_more _ _ _ _ _ _ _ _ _ c.loop-i.invariant.2 c.loop-i.invariant.3 c.loop-i-test.true
-      c.stored_len-end.ensures.answer.0 c.put_pair.ensures.written,
+      c.stored_len-end.ensures.answer.0 c.put.ensures.written,
 )
-
-pub shape_of-part : goal.shape_of-part
-shape_of-part c = search (rules, laws)
 
 pub returns : goal.returns
 returns c = search (rules, laws)
+
+pub loop-i-init : goal.loop-i-init
+loop-i-init c = search (rules, laws)

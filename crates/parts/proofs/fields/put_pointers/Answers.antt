@@ -11,29 +11,8 @@ ruleset laws = (pointers_start_lem, pointers_more, pointers_room, pointers-end, 
 pub returns-then-n-gt-MOST_ENTRIES : goal.returns-then-n-gt-MOST_ENTRIES
 returns-then-n-gt-MOST_ENTRIES c = search (rules, laws)
 
-pub overflow_mul-n : goal.overflow_mul-n
-overflow_mul-n c = search (rules, laws)
-
 pub returns-then-part-n : goal.returns-then-part-n
 returns-then-part-n c = search (rules, laws)
-
-pub loop-i-init : goal.loop-i-init
-loop-i-init c = search (rules, laws)
-
-pub overflow_mul-i : goal.overflow_mul-i
-overflow_mul-i c = search (rules, laws)
-
-pub pointer_of-requires : goal.pointer_of-requires
-pointer_of-requires c = search (rules, laws)
-
-pub put_quad-requires : goal.put_quad-requires
-put_quad-requires c = search (rules, laws)
-
-pub overflow_add-i : goal.overflow_add-i
-overflow_add-i c = search (rules, laws)
-
-pub loop-i-smaller : goal.loop-i-smaller
-loop-i-smaller c = search (rules, laws)
 
 pub loop-i-preserved : goal.loop-i-preserved
 loop-i-preserved c = (
@@ -42,11 +21,11 @@ loop-i-preserved c = (
   search rules,
   search rules,
   pointers_more _ _ _ _ _ _ c.loop-i.invariant.4 c.loop-i-test.true
-      c.pointer_of.ensures.answer c.put_quad.ensures.written,
+      c.pointer_of.ensures.answer c.put.ensures.written,
 )
-
-pub shape_of-part : goal.shape_of-part
-shape_of-part c = search (rules, laws)
 
 pub returns : goal.returns
 returns c = search (rules, laws)
+
+pub loop-i-init : goal.loop-i-init
+loop-i-init c = search (rules, laws)

@@ -3,7 +3,7 @@
 -- Assumes nothing.
 use Rattle.parts.proofs.fields.put_pointers.Given as goal
 use mathlib.Core.Path.{◌≡◌}
-use Prim.Native.Nat.{◌-◌, ◌*◌, ◌≤◌}
+use Prim.Native.Nat.{◌*◌, ◌≤◌}
 use lib.ListN.{length}
 use Rattle.format.specs.Normal.{pointers}
 use Rattle.rows.specs.Rows.{rows}
@@ -13,6 +13,3 @@ abbrev pub invariant-loop-i : goal.invariant-loop-i
 invariant-loop-i l =
     (length l.part ≡ length l.initial.part) × (length l.initial.part ≡ 4 * l.n) × (l.i ≤ l.n) × (l.n ≤ 681)
     × Written 4 (pointers (rows l.n l.t)) l.part l.i
-
-abbrev pub decreases-loop-i : goal.decreases-loop-i
-decreases-loop-i l = l.n - l.i

@@ -13,17 +13,5 @@ same k k' n s s' r er en ek es = er ∙ ap₂ ◌-◌ (en ∙ ap separator_lengt
 
 ruleset laws = (same)
 
-pub key_of-k-requires : goal.key_of-k-requires
-key_of-k-requires c = search (rules, laws)
-
-pub separator_len-len-requires : goal.separator_len-len-requires
-separator_len-len-requires c = search (rules, laws)
-
-pub left_out-requires : goal.left_out-requires
-left_out-requires c = search (rules, laws)
-
-pub over-requires : goal.over-requires
-over-requires c = search (rules, laws)
-
 pub returns : goal.returns
 returns c = search (rules, laws)

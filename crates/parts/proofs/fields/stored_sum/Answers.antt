@@ -10,23 +10,11 @@ ruleset laws = (summed_start, summed_more, summed_end, summed_small, summed_many
 pub returns-then-n-gt-MOST_ENTRIES : goal.returns-then-n-gt-MOST_ENTRIES
 returns-then-n-gt-MOST_ENTRIES c = search (rules, laws)
 
-pub loop-i-init : goal.loop-i-init
-loop-i-init c = search (rules, laws)
-
-pub stored_len-end-requires : goal.stored_len-end-requires
-stored_len-end-requires c = search (rules, laws)
-
-pub overflow_add-end : goal.overflow_add-end
-overflow_add-end c = search (rules, laws)
-
-pub overflow_add-i : goal.overflow_add-i
-overflow_add-i c = search (rules, laws)
-
-pub loop-i-smaller : goal.loop-i-smaller
-loop-i-smaller c = search (rules, laws)
-
 pub loop-i-preserved : goal.loop-i-preserved
 loop-i-preserved c = search (rules, laws)
 
 pub returns : goal.returns
 returns c = search (rules, laws)
+
+pub loop-i-init : goal.loop-i-init
+loop-i-init c = search (rules, laws)

@@ -2,11 +2,7 @@
 -- adds the stored length of one row more.
 -- Assumes nothing.
 use Rattle.parts.proofs.fields.stored_sum.Given as goal
-use Prim.Native.Nat.{◌-◌}
 use Rattle.parts.proofs.PartLaws.{Summed}
 
 abbrev pub invariant-loop-i : goal.invariant-loop-i
 invariant-loop-i l = Summed l.t l.n l.m l.q l.end l.i
-
-abbrev pub decreases-loop-i : goal.decreases-loop-i
-decreases-loop-i l = l.n - l.i
