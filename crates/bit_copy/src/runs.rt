@@ -63,7 +63,8 @@ impl<'a> Run<'a> {
     // The word x, the bits from its bit h on replaced by these.
     fn into_word(self, x: u64, h: usize) -> u64
         requires { h + self.len ≤ 64 }
-        ensures { bits 64 result ≡ paste (bits 64 x) h (drop (self.entry.from + self.entry.skip) (bits_of self.entry.bytes.now)) self.entry.len }
+        ensures { bits 64 result ≡ paste (bits 64 x) h
+            (drop (self.entry.from + self.entry.skip) (bits_of self.entry.bytes.now)) self.entry.len }
     {
         let v = words::at_bit(self.bytes, self.from, self.skip);
         let y = words::joined(x, h, v);
@@ -74,7 +75,8 @@ impl<'a> Run<'a> {
 // Copies a run into the eight bytes from i on, which are there, from their bit h on.
 fn copy_in_word(dst: &mut [u8], i: usize, h: usize, run: Run<'_>)
     requires { (i + 8 ≤ length dst.old) × (h + run.len ≤ 64) }
-    ensures { Moved dst.old (8 * i + h) run.entry.bytes.now (run.entry.from + run.entry.skip) run.entry.len dst.new }
+    ensures { Moved dst.old (8 * i + h)
+        run.entry.bytes.now (run.entry.from + run.entry.skip) run.entry.len dst.new }
 {
     let x = words::word_at(dst, i);
     let y = run.into_word(x, h);
@@ -85,7 +87,8 @@ fn copy_in_word(dst: &mut [u8], i: usize, h: usize, run: Run<'_>)
 // zeros behind it.
 fn copy_in_few(dst: &mut [u8], h: usize, run: Run<'_>)
     requires { (length dst.old < 8) × (h + run.len ≤ 8 * length dst.old) }
-    ensures { Moved dst.old h run.entry.bytes.now (run.entry.from + run.entry.skip) run.entry.len dst.new }
+    ensures { Moved dst.old h
+        run.entry.bytes.now (run.entry.from + run.entry.skip) run.entry.len dst.new }
 {
     let x = words::at_place(dst, 0, 0);
     let y = run.into_word(x, h);
@@ -96,7 +99,8 @@ fn copy_in_few(dst: &mut [u8], h: usize, run: Run<'_>)
 // of dst where fewer are left there, or all of a dst that has fewer.
 fn copy_part(dst: &mut [u8], i: usize, h: usize, run: Run<'_>)
     requires { (h + run.len ≤ 64) × (8 * i + h + run.len ≤ 8 * length dst.old) }
-    ensures { Moved dst.old (8 * i + h) run.entry.bytes.now (run.entry.from + run.entry.skip) run.entry.len dst.new }
+    ensures { Moved dst.old (8 * i + h)
+        run.entry.bytes.now (run.entry.from + run.entry.skip) run.entry.len dst.new }
 {
     if dst.len() < 8 {
         copy_in_few(dst, 8 * i + h, run);
@@ -110,7 +114,8 @@ fn copy_part(dst: &mut [u8], i: usize, h: usize, run: Run<'_>)
 // them.
 fn copy_words(dst: &mut [u8], to: usize, run: Run<'_>, n: usize)
     requires { (to + 8 * n ≤ length dst.old) × (64 * n < run.len) }
-    ensures { Moved dst.old (8 * to) run.entry.bytes.now (run.entry.from + run.entry.skip) (64 * n) dst.new }
+    ensures { Moved dst.old (8 * to)
+        run.entry.bytes.now (run.entry.from + run.entry.skip) (64 * n) dst.new }
 {
     let h = run.from % 8 + run.skip % 8;
     let i = run.from / 8 + run.skip / 8 + h / 8;
@@ -124,7 +129,8 @@ fn copy_words(dst: &mut [u8], to: usize, run: Run<'_>, n: usize)
 // rest.
 fn copy_rest(dst: &mut [u8], to: usize, run: Run<'_>)
     requires { (0 < run.len) × (8 * to + run.len ≤ 8 * length dst.old) }
-    ensures { Moved dst.old (8 * to) run.entry.bytes.now (run.entry.from + run.entry.skip) run.entry.len dst.new }
+    ensures { Moved dst.old (8 * to)
+        run.entry.bytes.now (run.entry.from + run.entry.skip) run.entry.len dst.new }
 {
     let n = (run.len - 1) / 64;
     copy_words(dst, to, run, n);
