@@ -1,13 +1,15 @@
 -- Laws of what the page writer answers.
--- In order: the answer, from its tests; the page of the rows' own bits; the law that callers cite.
+-- In order: whether a page can hold the rows, from the tests; the answer; the page of the rows' own bits; with a base;
+-- the laws that callers cite.
 -- Assumes nothing.
-use mathlib.Core.Bool.{Bool, true, false, cond, not}
+use mathlib.Core.Bool.{Bool, true, false, ◌&&◌, cond, not}
 use mathlib.Core.List.{List, ◌++◌}
 use mathlib.Core.Path.{◌≡◌, refl, sym, ap, ap₂, subst, ◌∙◌}
 use Prim.Native.Nat.{ℕ, ◌*◌, ◌-◌, ◌≤◌, ◌<◌}
 use native.Mathlib.Omega.{arith}
 use borrow.Author.Tests.{eq-eqb, ne_eqb, lt-ltb, le-ltb, le-leb, lt-leb, ltb-true, leb-true, leb-false, not-true, not-false}
 use lib.Dec.{eqb, ltb, leb}
+use Rattle.std.proofs.Math.Bool.{and_assoc, and-false}
 use lib.ListN.{length, take}
 use Rattle.format.specs.Bits.{le, pack}
 use Rattle.format.specs.Page.{Entry, body_bytes}
@@ -20,10 +22,49 @@ use Rattle.rows.specs.Rows.{rows}
 use Rattle.rows.proofs.RowsLaws.{length-rows}
 use Rattle.parts.proofs.PartLaws.{stored_sum_in}
 use Rattle.parts.specs.Parts.{stored_sum, row_keys, row_lengths, header_bytes}
-use Rattle.builder.specs.Writes.{own_bits, row_bits, laid_out, writable, Wrote}
+use Rattle.builder.specs.Writes.{own_bits, row_bits, laid_out, fitting, writable, Wrote}
 use Rattle.builder.specs.Over.{usable, over_bits, page_over}
 use Rattle.builder.proofs.RowLaws.{row_bits_own, rows_bits_same}
 use Rattle.builder.proofs.OverLaws.{all_four, over_bits-none}
+
+-- ---- whether a page can hold the rows
+
+module _ (t : List ℕ) (n m q : ℕ) where
+  pub no_row : n < 1 → fitting t n m q ≡ false
+  unfolding fitting
+  no_row h = rw (le-ltb 0 n (omega arith))
+
+  pub no_prefix : 1 ≤ n → 256 < q → fitting t n m q ≡ false
+  unfolding fitting
+  no_prefix g h = rw (lt-ltb 0 n (omega arith), lt-leb q 256 h)
+
+  no_room : 1 ≤ n → q ≤ 256 → 4086 < body_bytes n q (sum (row_lengths n t m q)) → fitting t n m q ≡ false
+  unfolding fitting
+  no_room g h l =
+      let b : ℕ = body_bytes n q (sum (row_lengths n t m q)) in
+      rw (lt-ltb 0 n (omega arith), le-leb q 256 h, lt-leb b 4086 l)
+
+  pub many : 1 ≤ n → q ≤ 256 → 681 < n → fitting t n m q ≡ false
+  unfolding body_bytes
+  many g h l = no_room g h (omega arith)
+
+  pub fitted : 1 ≤ n → q ≤ 256 → body_bytes n q (sum (row_lengths n t m q)) ≤ 4086 → fitting t n m q ≡ true
+  unfolding fitting
+  fitted g h l =
+      let b : ℕ = body_bytes n q (sum (row_lengths n t m q)) in
+      rw (lt-ltb 0 n (omega arith), le-leb q 256 h, le-leb b 4086 l)
+
+  -- what the test of the body tells, of the sum that the code has
+  module _ (s : ℕ) (r : Bool) (k : n ≤ 681) (es : s ≡ stored_sum t n m q) (er : r ≡ leb (body_bytes n q s) 4086) where
+    body_is : r ≡ leb (body_bytes n q (sum (row_lengths n t m q))) 4086
+    body_is = er ∙ ap (λ (x : ℕ). leb (body_bytes n q x) 4086) (es ∙ stored_sum_in t n m q k)
+
+    pub long : 1 ≤ n → q ≤ 256 → not r ≡ true → fitting t n m q ≡ false
+    long g h f =
+        no_room g h (leb-false (body_bytes n q (sum (row_lengths n t m q))) 4086 (sym body_is ∙ not-true r f))
+
+    pub room : not r ≡ false → body_bytes n q (sum (row_lengths n t m q)) ≤ 4086
+    room f = leb-true (body_bytes n q (sum (row_lengths n t m q))) 4086 (sym body_is ∙ not-false r f)
 
 -- ---- the answer
 
@@ -31,60 +72,29 @@ module _ (out t : List ℕ) (n m q : ℕ) (page : List ℕ) where
   unchanged : writable out t n m q ≡ false → Wrote out t n m q page false out
   unchanged e = record { answer = sym e; written = sym (ap (λ (b : Bool). cond b page out) e) }
 
+  is_writable : writable out t n m q ≡ (eqb (length out) 4096 && fitting t n m q)
+  unfolding writable fitting
+  is_writable =
+      let b : Bool = leb (body_bytes n q (sum (row_lengths n t m q))) 4086 in
+      ap (λ (x : Bool). x && b) (and_assoc (eqb (length out) 4096) (ltb 0 n) (leb q 256))
+      ∙ and_assoc (eqb (length out) 4096) (ltb 0 n && leb q 256) b
+
   pub no_page : (length out ≡ 4096 → ⊥) → Wrote out t n m q page false out
-  unfolding writable
-  no_page h = unchanged (rw (ne_eqb (length out) 4096 h))
+  no_page h = unchanged (is_writable ∙ ap (λ (b : Bool). b && fitting t n m q) (ne_eqb (length out) 4096 h))
 
-  pub no_row : length out ≡ 4096 → n < 1 → Wrote out t n m q page false out
-  unfolding writable
-  no_row e h = unchanged (rw (eq-eqb (length out) 4096 e, le-ltb 0 n (omega arith)))
-
-  pub no_prefix : length out ≡ 4096 → 1 ≤ n → 256 < q → Wrote out t n m q page false out
-  unfolding writable
-  no_prefix e g h = unchanged (rw (eq-eqb (length out) 4096 e, lt-ltb 0 n (omega arith), lt-leb q 256 h))
-
-  no_room : length out ≡ 4096 → 1 ≤ n → q ≤ 256 → 4086 < body_bytes n q (sum (row_lengths n t m q))
-      → Wrote out t n m q page false out
-  unfolding writable
-  no_room e g h l =
-      let b : ℕ = body_bytes n q (sum (row_lengths n t m q)) in
-      unchanged (rw (eq-eqb (length out) 4096 e, lt-ltb 0 n (omega arith), le-leb q 256 h, lt-leb b 4086 l))
-
-  pub many : length out ≡ 4096 → 1 ≤ n → q ≤ 256 → 681 < n → Wrote out t n m q page false out
-  unfolding body_bytes
-  many e g h l = no_room e g h (omega arith)
-
-  -- what the test of the body tells, of the sum that the code has
-  body_is : (s : ℕ) (r : Bool) → n ≤ 681 → s ≡ stored_sum t n m q → r ≡ leb (body_bytes n q s) 4086
-      → r ≡ leb (body_bytes n q (sum (row_lengths n t m q))) 4086
-  body_is s r k es er = er ∙ ap (λ (x : ℕ). leb (body_bytes n q x) 4086) (es ∙ stored_sum_in t n m q k)
-
-  pub long : (s : ℕ) (r : Bool) → length out ≡ 4096 → 1 ≤ n → q ≤ 256 → n ≤ 681 → s ≡ stored_sum t n m q
-      → r ≡ leb (body_bytes n q s) 4086
-      → not r ≡ true → Wrote out t n m q page false out
-  long s r e g h k es er f =
-      no_room e g h
-      (leb-false (body_bytes n q (sum (row_lengths n t m q))) 4086 (sym (body_is s r k es er) ∙ not-true r f))
-
-  pub room : (s : ℕ) (r : Bool) → n ≤ 681 → s ≡ stored_sum t n m q → r ≡ leb (body_bytes n q s) 4086 → not r ≡ false
-      → body_bytes n q (sum (row_lengths n t m q)) ≤ 4086
-  room s r k es er f =
-      leb-true (body_bytes n q (sum (row_lengths n t m q))) 4086 (sym (body_is s r k es er) ∙ not-false r f)
+  pub no_rows : fitting t n m q ≡ false → Wrote out t n m q page false out
+  no_rows f = unchanged (is_writable ∙ ap (λ (b : Bool). eqb (length out) 4096 && b) f ∙ and-false (eqb (length out) 4096))
 
   writable_room : length out ≡ 4096 → 1 ≤ n → q ≤ 256 → body_bytes n q (sum (row_lengths n t m q)) ≤ 4086
       → writable out t n m q ≡ true
-  unfolding writable
-  writable_room e g h l =
-      let b : ℕ = body_bytes n q (sum (row_lengths n t m q)) in
-      rw (eq-eqb (length out) 4096 e, lt-ltb 0 n (omega arith), le-leb q 256 h, le-leb b 4086 l)
+  writable_room e g h l = is_writable ∙ ap₂ ◌&&◌ (eq-eqb (length out) 4096 e) (fitted t n m q g h l)
 
-  pub done : (s : ℕ) (r : Bool) (after : List ℕ) → length out ≡ 4096 → 1 ≤ n → q ≤ 256 → n ≤ 681
-      → s ≡ stored_sum t n m q
-      → r ≡ leb (body_bytes n q s) 4086 → not r ≡ false
+  pub done : (after : List ℕ) → length out ≡ 4096 → 1 ≤ n → q ≤ 256
+      → body_bytes n q (sum (row_lengths n t m q)) ≤ 4086
       → after ≡ page
       → Wrote out t n m q page true after
-  done s r after e g h k es er f ea =
-      let w : writable out t n m q ≡ true = writable_room e g h (room s r k es er f) in
+  done after e g h l ea =
+      let w : writable out t n m q ≡ true = writable_room e g h l in
       record { answer = sym w; written = ea ∙ sym (ap (λ (b : Bool). cond b page out) w) }
 
 -- where it can be written there is a row
@@ -136,47 +146,37 @@ wrote_none out base t number bn n m q r after w =
 
 -- its tests: another prefix, a base that is too long, one of too many entries, and the last
 module _ (base : List ℕ) (bn bm bq q : ℕ) where
-  pub other_prefix : (bq ≡ q → ⊥) → false ≡ usable base bn bm bq q
+  pub other_prefix : (bq ≡ q → ⊥) → usable base bn bm bq q ≡ false
   unfolding usable
   other_prefix h = rw (ne_eqb bq q h)
 
-  pub long_base : bq ≡ q → 4096 < length base → false ≡ usable base bn bm bq q
+  pub long_base : bq ≡ q → 4096 < length base → usable base bn bm bq q ≡ false
   unfolding usable
   long_base e l = rw (eq-eqb bq q e, lt-leb (length base) 4096 l)
 
-  pub many_entries : bq ≡ q → length base ≤ 4096 → 681 < bn → false ≡ usable base bn bm bq q
+  pub many_entries : bq ≡ q → length base ≤ 4096 → 681 < bn → usable base bn bm bq q ≡ false
   unfolding usable
   many_entries e l h = rw (eq-eqb bq q e, le-leb (length base) 4096 l, lt-leb bn 681 h)
 
-  pub few_entries : bq ≡ q → length base ≤ 4096 → bn ≤ 681 → leb bm 681 ≡ usable base bn bm bq q
+  pub many_compressed : bq ≡ q → length base ≤ 4096 → bn ≤ 681 → 681 < bm → usable base bn bm bq q ≡ false
   unfolding usable
-  few_entries e l h = rw (eq-eqb bq q e, le-leb (length base) 4096 l, le-leb bn 681 h)
+  many_compressed e l h k = rw (eq-eqb bq q e, le-leb (length base) 4096 l, le-leb bn 681 h, lt-leb bm 681 k)
 
-module _ (base : List ℕ) (bn bm bq q : ℕ) (u : Bool) (eu : u ≡ usable base bn bm bq q) where
-  module _ (h : u ≡ true) where
-    tests : (eqb bq q ≡ true) × (leb (length base) 4096 ≡ true) × (leb bn 681 ≡ true) × (leb bm 681 ≡ true)
-    unfolding usable
-    tests = all_four (eqb bq q) (leb (length base) 4096) (leb bn 681) (leb bm 681) (sym eu ∙ h)
+  pub helps : bq ≡ q → length base ≤ 4096 → bn ≤ 681 → bm ≤ 681 → usable base bn bm bq q ≡ true
+  unfolding usable
+  helps e l h k = rw (eq-eqb bq q e, le-leb (length base) 4096 l, le-leb bn 681 h, le-leb bm 681 k)
 
-    pub usable-size : length base ≤ 4096
-    usable-size = leb-true (length base) 4096 tests.1
+module _ (out base t : List ℕ) (number bn bm bq n m q : ℕ) (r : Bool) (after : List ℕ) where
+  pub wrote_over : usable base bn bm bq q ≡ true
+      → Wrote out t n m q (laid_out number t n m q (over_bits base bn bm t m q)) r after
+      → Wrote out t n m q (page_over number base bn bm bq t n m q) r after
+  unfolding page_over
+  wrote_over h w = subst (λ (p : List ℕ). Wrote out t n m q p r after) (rw h) w
 
-    pub usable-count : bn ≤ 681
-    usable-count = leb-true bn 681 tests.2
-
-    pub usable-compressed : bm ≤ 681
-    usable-compressed = leb-true bm 681 tests.3
-
-  module _ (out t : List ℕ) (number n m : ℕ) (r : Bool) (after : List ℕ) where
-    pub wrote_over : u ≡ true → Wrote out t n m q (laid_out number t n m q (over_bits base bn bm t m q)) r after
-        → Wrote out t n m q (page_over number base bn bm bq t n m q) r after
-    unfolding page_over
-    wrote_over h w = subst (λ (p : List ℕ). Wrote out t n m q p r after) (rw (sym eu ∙ h)) w
-
-    pub wrote_alone : u ≡ false → Wrote out t n m q (page_under number (rows n t) m q) r after
-        → Wrote out t n m q (page_over number base bn bm bq t n m q) r after
-    unfolding page_over
-    wrote_alone h w = subst (λ (p : List ℕ). Wrote out t n m q p r after) (rw (sym eu ∙ h)) w
+  pub wrote_alone : usable base bn bm bq q ≡ false → Wrote out t n m q (page_under number (rows n t) m q) r after
+      → Wrote out t n m q (page_over number base bn bm bq t n m q) r after
+  unfolding page_over
+  wrote_alone h w = subst (λ (p : List ℕ). Wrote out t n m q p r after) (rw h) w
 
 -- ---- for callers
 

@@ -1,5 +1,5 @@
 -- What the page writer leaves. Document 01, "The page", "The normal page".
--- In order: own_bits rows_bits row_bits · laid_out · writable Wrote · Pushed.
+-- In order: own_bits rows_bits row_bits · laid_out · fitting writable Wrote · Pushed.
 -- Not here: the parts of the page by themselves (parts, specs/Parts.antt).
 -- Assumes nothing.
 use Rattle.std.specs.Prelude.{ℕ, zero, suc, ◌+◌, ◌-◌, ◌*◌, ◌≤◌, ◌≡◌, Bool, cond, ◌&&◌, List, [], ◌++◌, length, take, drop, eqb, ltb, leb}
@@ -33,6 +33,11 @@ laid_out number t n m q f =
     ++ words 2 (running 0 (row_lengths n t m q))
     ++ pack (4086 - 6 * n) (row_bits f n t q)
     ++ words 4 (pointers (rows n t))
+
+-- Whether a page can hold the first n rows under a choice of m and q: a row, a prefix within a key, a body that fits.
+unfoldable pub fitting : List ℕ → ℕ → ℕ → ℕ → Bool
+unfolding body_bytes sum row_lengths
+fitting t n m q = ltb 0 n && leb q 256 && leb (body_bytes n q (sum (row_lengths n t m q))) 4086
 
 -- Whether the page of n rows can be written: 4,096 bytes, a row, a prefix within a key, a body that fits.
 unfoldable pub writable : List ℕ → List ℕ → ℕ → ℕ → ℕ → Bool

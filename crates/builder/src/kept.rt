@@ -1,66 +1,102 @@
 // Rows that a base page has: where their bits stand there, and how far they stand side by side.
 // Which rows: `kept` of specs/Over.antt.
-ghost use Rattle.std.specs.Prelude.{◌≡◌, true, ◌≤◌, ◌<◌, length};
+ghost use Rattle.std.specs.Prelude.{◌≡◌, true, false, ◌≤◌, ◌<◌, length, MatchOption};
 ghost use Rattle.rows.specs.Rows.{row_source};
-ghost use Rattle.builder.specs.Over.{kept, Run};
+ghost use Rattle.builder.specs.Over.{usable, kept, Run};
 
+use crate::fitting::Rows;
+use format::layout;
 use rows::table;
 
-// Whether the base has row i as the page is to have it.
-pub(crate) fn is_kept(
-    base: &[u8],
-    bn: usize,
-    bm: usize,
-    t: &[u64],
-    m: usize,
-    q: usize,
-    i: usize,
-) -> bool
-    requires { (length base.now ≤ 4096) × (bn ≤ 681) × (bm ≤ 681) × (q ≤ 256) }
-    ensures answer { result ≡ kept base.now bn bm t.now m q i }
-{
-    if m <= i {
-        return false;
-    }
-    let s = table::source_of(t, i);
-    if bm as u64 <= s {
-        return false;
-    }
-    let j = s as usize;
-    let k = table::key_of(t, i);
-    let end = shape::cell(base, j);
-    if end != shape::start_offset(base, j) + numbers::over(k.separator_len(), q) {
-        return false;
-    }
-    8 * (10 + 2 * bn) + (q + end) <= 8 * base.len()
+// A base page said to have n entries, m of them compressed by as many bits as the page to be
+// written has of prefix.
+#[derive(Clone, Copy)]
+pub(crate) struct Base<'a> {
+    pub(crate) page: &'a [u8],
+    pub(crate) n: usize,
+    pub(crate) m: usize,
+    pub(crate) ghost small: { length page.now ≤ 4096 },
+    pub(crate) ghost few: { n ≤ 681 },
+    pub(crate) ghost within: { m ≤ 681 },
 }
 
-// The end of the run of kept rows from i on whose sources are j and on.
-pub(crate) fn run_end(
-    base: &[u8],
-    bn: usize,
-    bm: usize,
-    t: &[u64],
-    n: usize,
-    m: usize,
-    q: usize,
-    i: usize,
-    j: usize,
-) -> usize
-    requires base_len_bound { (length base.now ≤ 4096) × (bn ≤ 681) × (bm ≤ 681) × (q ≤ 256) }
-    requires i_lt_n { (i < n) × (n ≤ 681) × (j ≡ row_source t.now i)
-        × (kept base.now bn bm t.now m q i ≡ true) }
-    ensures answer { Run base.now bn bm t.now n m q i j result × (i < result) }
-{
-    let mut e = i + 1;
-    while e < n {
-        if table::source_of(t, e) != (j + (e - i)) as u64 {
-            return e;
+impl<'a> Base<'a> {
+    // A base of no entries, which has no row.
+    pub(crate) fn none() -> Base<'a>
+        ensures answer { result.m ≡ 0 }
+    {
+        Base {
+            page: &[],
+            n: 0,
+            m: 0,
         }
-        if !is_kept(base, bn, bm, t, m, q, e) {
-            return e;
-        }
-        e += 1;
     }
-    e
+
+    // The base where it can help: its prefix is as long, and it has no more bytes and entries than
+    // a page.
+    pub(crate) fn helping(
+        page: &'a [u8],
+        n: usize,
+        m: usize,
+        bq: usize,
+        q: usize,
+    ) -> Option<Base<'a>>
+        ensures answer { MatchOption result (usable page.now n m bq q ≡ false)
+            (λ base. (usable page.now n m bq q ≡ true) × (base.page.now ≡ page.now)
+            × (base.n ≡ n) × (base.m ≡ m)) }
+    {
+        if bq != q {
+            return None;
+        }
+        if layout::PAGE_SIZE < page.len() {
+            return None;
+        }
+        if layout::MOST_ENTRIES < n {
+            return None;
+        }
+        if layout::MOST_ENTRIES < m {
+            return None;
+        }
+        Some(Base { page, n, m })
+    }
+
+    // Whether the base has row i as the page is to have it.
+    pub(crate) fn is_kept(&self, rows: &Rows, i: usize) -> bool
+        ensures answer { result
+            ≡ kept self.now.page.now self.now.n self.now.m rows.now.table.now rows.now.m rows.now.q i }
+    {
+        if rows.m <= i {
+            return false;
+        }
+        let s = table::source_of(rows.table, i);
+        if self.m as u64 <= s {
+            return false;
+        }
+        let j = s as usize;
+        let k = table::key_of(rows.table, i);
+        let end = shape::cell(self.page, j);
+        if end != shape::start_offset(self.page, j) + k.separator_len().saturating_sub(rows.q) {
+            return false;
+        }
+        8 * (10 + 2 * self.n) + (rows.q + end) <= 8 * self.page.len()
+    }
+
+    // The end of the run of kept rows from i on whose sources are j and on.
+    pub(crate) fn run_end(&self, rows: &Rows, i: usize, j: usize) -> usize
+        requires { (i < rows.now.n) × (j ≡ row_source rows.now.table.now i)
+            × (kept self.now.page.now self.now.n self.now.m rows.now.table.now rows.now.m rows.now.q i
+            ≡ true) }
+        ensures answer { Run self.now.page.now self.now.n self.now.m rows.now.table.now rows.now.n
+            rows.now.m rows.now.q i j result × (i < result) }
+    {
+        for e in i + 1..rows.n {
+            if table::source_of(rows.table, e) != (j + (e - i)) as u64 {
+                return e;
+            }
+            if !self.is_kept(rows, e) {
+                return e;
+            }
+        }
+        rows.n
+    }
 }

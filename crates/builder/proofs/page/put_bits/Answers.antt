@@ -3,18 +3,7 @@
 -- Assumes nothing.
 use Rattle.std.proofs.Common.{rules}
 use Rattle.builder.proofs.page.put_bits.Goals as goal
-use Rattle.builder.proofs.PushLaws.{pushed_start, pushed_fits, pushed_sum, pushed_size, pushed_end}
-
-ruleset laws = (pushed_start, pushed_fits, pushed_sum, pushed_size, pushed_end)
-
-pub key_of-requires : goal.key_of-requires
-key_of-requires c = search (rules, laws)
-
-pub put_key-requires : goal.put_key-requires
-put_key-requires c = search (rules, laws)
-
-pub new-b-requires : goal.new-b-requires
-new-b-requires c = search (rules, laws)
+use Rattle.builder.proofs.PushLaws.{pushed_start, pushed_sum, pushed_end}
 
 pub loop-b-init : goal.loop-b-init
 loop-b-init c = (
@@ -23,23 +12,8 @@ loop-b-init c = (
       c.key_of.ensures.answer c.put_key.ensures.written (search rules) (search rules) (search rules),
 )
 
-pub push_next-b-requires : goal.push_next-b-requires
-push_next-b-requires c = search (rules, laws)
-
-pub loop-b-smaller : goal.loop-b-smaller
-loop-b-smaller c = search (rules, laws)
-
-pub loop-b-preserved : goal.loop-b-preserved
-loop-b-preserved c = search (rules, laws)
-
-pub overflow_add-q : goal.overflow_add-q
-overflow_add-q c = search (rules, laws)
-
-pub clear_from-requires : goal.clear_from-requires
-clear_from-requires c = search (rules, laws)
-
-pub shape_of-part : goal.shape_of-part
-shape_of-part c = search (rules, laws)
+pub overflow_add-rows : goal.overflow_add-rows
+overflow_add-rows c = search (rules, pushed_sum)
 
 pub returns : goal.returns
 returns c = record {

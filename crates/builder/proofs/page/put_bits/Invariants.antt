@@ -11,7 +11,8 @@ use Rattle.builder.specs.Over.{over_bits}
 abbrev pub invariant-loop-b : goal.invariant-loop-b
 invariant-loop-b l =
     (length l.part ≡ length l.initial.part)
-    × Pushed (over_bits l.base l.bn l.bm l.t l.m l.q) l.t l.n l.m l.q (length l.part) l.part l.b.bit_offset l.b.n
+    × Pushed (over_bits l.base.page.now l.base.n l.base.m l.rows.table.now l.rows.m l.rows.q) l.rows.table.now l.rows.n
+    l.rows.m l.rows.q (length l.part) l.part l.b.bit_offset l.b.n
 
 abbrev pub decreases-loop-b : goal.decreases-loop-b
-decreases-loop-b l = l.n - l.b.n
+decreases-loop-b l = l.rows.n - l.b.n

@@ -1,29 +1,18 @@
--- `builder::page::write_page_over` meets its contract: because `helps` tells what `usable` does, and `write_rows` or
--- `write_page` does the rest.
+-- `builder::page::write_page_over` meets its contract: because `Base::helping` tells what `usable` does, and
+-- `write_rows` or `write_page` does the rest.
 -- Assumes nothing.
-use Rattle.std.proofs.Common.{rules}
 use Rattle.builder.proofs.page.write_page_over.Goals as goal
-use Rattle.builder.proofs.WriteLaws.{usable-size, usable-count, usable-compressed, wrote_over, wrote_alone}
+use Rattle.builder.proofs.WriteLaws.{no_rows, wrote_over, wrote_alone}
 
-ruleset laws = (usable-size, usable-count, usable-compressed, wrote_over, wrote_alone)
+pub returns-in_default : goal.returns-in_default
+returns-in_default c = wrote_alone _ _ _ _ _ _ _ _ _ _ _ _ c.in_default.ensures.answer c.write_page.ensures
 
-pub helps-requires : goal.helps-requires
-helps-requires c = search (rules, laws)
-
-pub write_rows-requires : goal.write_rows-requires
-write_rows-requires c = search (rules, laws)
-
-pub shape_of-out-then-helps : goal.shape_of-out-then-helps
-shape_of-out-then-helps c = search (rules, laws)
-
-pub returns-then-helps : goal.returns-then-helps
-returns-then-helps c = search (rules, laws)
-
-pub write_page-requires : goal.write_page-requires
-write_page-requires c = search (rules, laws)
-
-pub shape_of-out : goal.shape_of-out
-shape_of-out c = search (rules, laws)
+pub returns-in_default-fitting : goal.returns-in_default-fitting
+returns-in_default-fitting c = no_rows _ _ _ _ _ _ c.in_default-fitting.ensures.answer
 
 pub returns : goal.returns
-returns c = search (rules, laws)
+returns c =
+    let base = c.in-Some.ensures.answer in
+    let rows = c.in-Some-fitting.ensures.answer in
+    wrote_over _ _ _ _ _ _ _ _ _ _ _ _ base.0
+    (rw (← base.1, ← base.2, ← base.3, ← rows.1, ← rows.2, ← rows.3, ← rows.4) c.write_rows.ensures)

@@ -1,0 +1,10 @@
+-- `builder::kept::Base::run_end` meets its contract: because each turn finds one row more that the base has behind the
+-- one before.
+-- Assumes nothing.
+use Rattle.builder.proofs.kept.Base.run_end.Given as goal
+use Prim.Native.Nat.{◌<◌}
+use Rattle.builder.specs.Over.{Run}
+
+abbrev pub invariant-loop-e : goal.invariant-loop-e
+invariant-loop-e l =
+    Run l.self.page.now l.self.n l.self.m l.rows.table.now l.rows.n l.rows.m l.rows.q l.i l.j l.e × (l.i < l.e)
