@@ -270,9 +270,6 @@ module _ (base : List ℕ) (bn q j k f g x : ℕ) (ef : f ≡ start_of base j) (
   moved_length : x ≡ start_of base (j + k) - start_of base j
   moved_length = ex ∙ ap₂ ◌-◌ eg ef
 
-  pub moved_ends : (bit : ℕ) → bit + x ≡ bit + (start_of base (j + k) - start_of base j)
-  moved_ends bit = ap (λ (y : ℕ). bit + y) moved_length
-
   pub moved : (d d' : List ℕ) (at : ℕ) (r : Outcome) → Copied d at base (8 * (10 + 2 * bn) + (q + f)) x r d'
       → at + (start_of base (j + k) - start_of base j) ≤ 8 * length d
       → 8 * (10 + 2 * bn) + (q + start_of base j) + (start_of base (j + k) - start_of base j) ≤ 8 * length base

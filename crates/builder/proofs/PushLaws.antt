@@ -139,10 +139,3 @@ module _ (f : ℕ → List ℕ) (t : List ℕ) (n m q : ℕ) where
         → part' ≡ pack k (row_bits f n t q)
     unfolding cleared
     pushed_end part' h e k ek = e ∙ ap₂ pack (s.len ∙ ek) (all h)
-
--- the size is the part's own
-pub pushed_size : (f : ℕ → List ℕ) (t : List ℕ) (n m q size size' : ℕ) (part : List ℕ) (bit i : ℕ)
-    → Pushed f t n m q size part bit i
-    → size' ≡ size
-    → Pushed f t n m q size' part bit i
-pushed_size f t n m q size size' part bit i s e = subst (λ (x : ℕ). Pushed f t n m q x part bit i) (sym e) s

@@ -7,6 +7,7 @@ use mathlib.Core.List.{List, ◌++◌}
 use mathlib.Core.Path.{◌≡◌, refl, sym, ap, ap₂, subst, ◌∙◌}
 use Prim.Native.Nat.{ℕ, ◌*◌, ◌-◌, ◌≤◌, ◌<◌}
 use native.Mathlib.Omega.{arith}
+use native.Mathlib.Decide.{dec_le}
 use borrow.Author.Tests.{eq-eqb, ne_eqb, lt-ltb, le-ltb, le-leb, lt-leb, ltb-true, leb-true, leb-false, not-true, not-false}
 use lib.Dec.{eqb, ltb, leb}
 use Rattle.std.proofs.Math.Bool.{and_assoc, and-false}
@@ -55,16 +56,26 @@ module _ (t : List ℕ) (n m q : ℕ) where
       rw (lt-ltb 0 n (omega arith), le-leb q 256 h, le-leb b 4086 l)
 
   -- what the test of the body tells, of the sum that the code has
-  module _ (s : ℕ) (r : Bool) (k : n ≤ 681) (es : s ≡ stored_sum t n m q) (er : r ≡ leb (body_bytes n q s) 4086) where
-    body_is : r ≡ leb (body_bytes n q (sum (row_lengths n t m q))) 4086
-    body_is = er ∙ ap (λ (x : ℕ). leb (body_bytes n q x) 4086) (es ∙ stored_sum_in t n m q k)
+  module _ (s : ℕ) (r : Bool) (es : s ≡ stored_sum t n m q) (er : r ≡ leb (body_bytes n q s) 4086) where
+    body_is : n ≤ 681 → r ≡ leb (body_bytes n q (sum (row_lengths n t m q))) 4086
+    body_is k = er ∙ ap (λ (x : ℕ). leb (body_bytes n q x) 4086) (es ∙ stored_sum_in t n m q k)
 
     pub long : 1 ≤ n → q ≤ 256 → not r ≡ true → fitting t n m q ≡ false
-    long g h f =
-        no_room g h (leb-false (body_bytes n q (sum (row_lengths n t m q))) 4086 (sym body_is ∙ not-true r f))
+    long g h f = go (dec_le n 681)
+      where
+        b : ℕ
+        b = body_bytes n q (sum (row_lengths n t m q))
+
+        go : Dec (n ≤ 681) → fitting t n m q ≡ false
+        go (yes k) = no_room g h (leb-false b 4086 (sym (body_is k) ∙ not-true r f))
+        go (no k) = many g h (omega arith)
+
+    pub few : not r ≡ false → n ≤ 681
+    unfolding body_bytes
+    few f = omega (arith, leb-true (body_bytes n q s) 4086 (sym er ∙ not-false r f))
 
     pub room : not r ≡ false → body_bytes n q (sum (row_lengths n t m q)) ≤ 4086
-    room f = leb-true (body_bytes n q (sum (row_lengths n t m q))) 4086 (sym body_is ∙ not-false r f)
+    room f = leb-true (body_bytes n q (sum (row_lengths n t m q))) 4086 (sym (body_is (few f)) ∙ not-false r f)
 
 -- ---- the answer
 

@@ -5,7 +5,6 @@ ghost use Rattle.format.specs.Normal.{sum};
 ghost use Rattle.parts.specs.Parts.{row_lengths};
 ghost use Rattle.builder.specs.Writes.{fitting};
 
-use format::layout;
 use parts::fields;
 
 // The first n rows of a table, under a choice of m and q that fits a page.
@@ -28,17 +27,8 @@ impl<'a> Rows<'a> {
             (λ rows. (fitting table.now n m q ≡ true) × (rows.table.now ≡ table.now)
             × (rows.n ≡ n) × (rows.m ≡ m) × (rows.q ≡ q)) }
     {
-        if n < 1 {
-            return None;
-        }
-        if 256 < q {
-            return None;
-        }
-        if layout::MOST_ENTRIES < n {
-            return None;
-        }
         let sum = fields::stored_sum(table, n, m, q);
-        if !shape::body_fits(n, q, sum) {
+        if n < 1 || 256 < q || !shape::body_fits(n, q, sum) {
             return None;
         }
         Some(Rows { table, n, m, q })

@@ -45,16 +45,11 @@ impl<'a> Base<'a> {
             (λ base. (usable page.now n m bq q ≡ true) × (base.page.now ≡ page.now)
             × (base.n ≡ n) × (base.m ≡ m)) }
     {
-        if bq != q {
-            return None;
-        }
-        if layout::PAGE_SIZE < page.len() {
-            return None;
-        }
-        if layout::MOST_ENTRIES < n {
-            return None;
-        }
-        if layout::MOST_ENTRIES < m {
+        if bq != q
+            || layout::PAGE_SIZE < page.len()
+            || layout::MOST_ENTRIES < n
+            || layout::MOST_ENTRIES < m
+        {
             return None;
         }
         Some(Base { page, n, m })
@@ -75,10 +70,8 @@ impl<'a> Base<'a> {
         let j = s as usize;
         let k = table::key_of(rows.table, i);
         let end = shape::cell(self.page, j);
-        if end != shape::start_offset(self.page, j) + k.separator_len().saturating_sub(rows.q) {
-            return false;
-        }
-        8 * (10 + 2 * self.n) + (rows.q + end) <= 8 * self.page.len()
+        end == shape::start_offset(self.page, j) + k.separator_len().saturating_sub(rows.q)
+            && 8 * (10 + 2 * self.n) + (rows.q + end) <= 8 * self.page.len()
     }
 
     // The end of the run of kept rows from i on whose sources are j and on.
@@ -90,10 +83,7 @@ impl<'a> Base<'a> {
             rows.now.m rows.now.q i j result × (i < result) }
     {
         for e in i + 1..rows.n {
-            if table::source_of(rows.table, e) != (j + (e - i)) as u64 {
-                return e;
-            }
-            if !self.is_kept(rows, e) {
+            if table::source_of(rows.table, e) != (j + (e - i)) as u64 || !self.is_kept(rows, e) {
                 return e;
             }
         }

@@ -67,15 +67,13 @@ impl BranchNodeBuilder {
             (separator_length (row_key rows.now.table.now self.n)
             - left_out rows.now.m rows.now.q self.n) }
     {
-        let n = self.n;
-        let start = self.bit_offset;
-        let k = table::key_of(rows.table, n);
-        let skip = fields::left_out(n, rows.m, rows.q);
+        let k = table::key_of(rows.table, self.n);
+        let skip = fields::left_out(self.n, rows.m, rows.q);
         let len = k.separator_len().saturating_sub(skip);
-        bits::put_key(part, rows.q + start, k, skip, len);
+        bits::put_key(part, rows.q + self.bit_offset, k, skip, len);
         BranchNodeBuilder {
-            n: n + 1,
-            bit_offset: start + len,
+            n: self.n + 1,
+            bit_offset: self.bit_offset + len,
         }
     }
 
@@ -98,15 +96,13 @@ impl BranchNodeBuilder {
             (bits_of base.now.page.now))
             (start_of base.now.page.now (j + k) - start_of base.now.page.now j) }
     {
-        let n = self.n;
-        let start = self.bit_offset;
         let from = shape::start_offset(base.page, j);
         let len = shape::start_offset(base.page, j + k).saturating_sub(from);
         let at = 8 * (10 + 2 * base.n) + (rows.q + from);
-        let _ = bit_copy::bitwise_memcpy(part, rows.q + start, base.page, at, len);
+        let _ = bit_copy::bitwise_memcpy(part, rows.q + self.bit_offset, base.page, at, len);
         BranchNodeBuilder {
-            n: n + k,
-            bit_offset: start + len,
+            n: self.n + k,
+            bit_offset: self.bit_offset + len,
         }
     }
 

@@ -9,14 +9,5 @@ ruleset laws = (other_prefix, long_base, many_entries, many_compressed, helps)
 pub returns-then-bq-q : goal.returns-then-bq-q
 returns-then-bq-q c = search (rules, laws)
 
-pub returns-then-page-gt-PAGE_SIZE : goal.returns-then-page-gt-PAGE_SIZE
-returns-then-page-gt-PAGE_SIZE c = search (rules, laws)
-
-pub returns-then-n-gt-MOST_ENTRIES : goal.returns-then-n-gt-MOST_ENTRIES
-returns-then-n-gt-MOST_ENTRIES c = search (rules, laws)
-
-pub returns-then-m-gt-MOST_ENTRIES : goal.returns-then-m-gt-MOST_ENTRIES
-returns-then-m-gt-MOST_ENTRIES c = search (rules, laws)
-
 pub returns : goal.returns
 returns c = search (rules, laws)

@@ -15,5 +15,5 @@ returns-then-self-s c = search (rules, laws)
 pub returns-then-end-start_offset : goal.returns-then-end-start_offset
 returns-then-end-start_offset c = search (rules, laws)
 
-pub returns : goal.returns
-returns c = search (rules, laws)
+pub returns-else-end-start_offset : goal.returns-else-end-start_offset
+returns-else-end-start_offset c = search (rules, laws)
