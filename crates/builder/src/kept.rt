@@ -2,7 +2,7 @@
 // Which rows: `kept` of specs/Over.antt.
 ghost use Rattle.std.specs.Prelude.{◌≡◌, true, false, ◌≤◌, ◌<◌, length, MatchOption};
 ghost use Rattle.rows.specs.Rows.{row_source};
-ghost use Rattle.builder.specs.Over.{usable, kept, Run};
+ghost use Rattle.builder.specs.Over.{usable};
 
 use crate::fitting::Rows;
 use format::layout;
@@ -21,6 +21,8 @@ pub(crate) struct Base<'a> {
 }
 
 impl<'a> Base<'a> {
+    ghost use Rattle.builder.specs.Passed.{keeps, RunOf};
+
     // A base of no entries, which has no row.
     pub(crate) fn none() -> Base<'a>
         ensures answer { result.m ≡ 0 }
@@ -57,8 +59,7 @@ impl<'a> Base<'a> {
 
     // Whether the base has row i as the page is to have it.
     pub(crate) fn is_kept(&self, rows: &Rows, i: usize) -> bool
-        ensures answer { result
-            ≡ kept self.now.page.now self.now.n self.now.m rows.now.table.now rows.now.m rows.now.q i }
+        ensures answer { result ≡ keeps self.now rows.now i }
     {
         if rows.m <= i {
             return false;
@@ -77,10 +78,8 @@ impl<'a> Base<'a> {
     // The end of the run of kept rows from i on whose sources are j and on.
     pub(crate) fn run_end(&self, rows: &Rows, i: usize, j: usize) -> usize
         requires { (i < rows.now.n) × (j ≡ row_source rows.now.table.now i)
-            × (kept self.now.page.now self.now.n self.now.m rows.now.table.now rows.now.m rows.now.q i
-            ≡ true) }
-        ensures answer { Run self.now.page.now self.now.n self.now.m rows.now.table.now rows.now.n
-            rows.now.m rows.now.q i j result × (i < result) }
+            × (keeps self.now rows.now i ≡ true) }
+        ensures answer { RunOf self.now rows.now i j result × (i < result) }
     {
         for e in i + 1..rows.n {
             if table::source_of(rows.table, e) != (j + (e - i)) as u64 || !self.is_kept(rows, e) {

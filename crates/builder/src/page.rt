@@ -16,8 +16,9 @@ ghost use Rattle.format.specs.Page.{start_of};
 ghost use Rattle.format.specs.Normal.{sum, page_under};
 ghost use Rattle.rows.specs.Rows.{rows, row_key};
 ghost use Rattle.parts.specs.Parts.{left_out, row_lengths};
-ghost use Rattle.builder.specs.Writes.{row_bits, laid_out, Wrote, Pushed};
-ghost use Rattle.builder.specs.Over.{usable, over_bits, page_over};
+ghost use Rattle.builder.specs.Writes.{row_bits, Wrote};
+ghost use Rattle.builder.specs.Over.{page_over};
+ghost use Rattle.builder.specs.Passed.{bits_over, row_len, run_len, run_start, laid_over, PushedOver};
 
 use crate::fitting::Rows;
 use crate::kept::Base;
@@ -54,18 +55,13 @@ impl BranchNodeBuilder {
     // separator length.
     fn push(self, part: &mut [u8], rows: &Rows) -> Self
         requires { (self.n < rows.now.n) × (length part.old ≤ 4096)
-            × (rows.now.q + self.bit_offset
-            + (separator_length (row_key rows.now.table.now self.n)
-            - left_out rows.now.m rows.now.q self.n) ≤ 8 * length part.old) }
+            × (rows.now.q + self.bit_offset + row_len rows.now self.n ≤ 8 * length part.old) }
         ensures answer { (result.n ≡ self.n + 1)
-            × (result.bit_offset ≡ self.bit_offset
-            + (separator_length (row_key rows.now.table.now self.n)
-            - left_out rows.now.m rows.now.q self.n)) }
+            × (result.bit_offset ≡ self.bit_offset + row_len rows.now self.n) }
         ensures written { bits_of part.new
             ≡ paste (bits_of part.old) (rows.now.q + self.bit_offset)
             (drop (left_out rows.now.m rows.now.q self.n) (row_key rows.now.table.now self.n))
-            (separator_length (row_key rows.now.table.now self.n)
-            - left_out rows.now.m rows.now.q self.n) }
+            (row_len rows.now self.n) }
     {
         let k = table::key_of(rows.table, self.n);
         let skip = fields::left_out(self.n, rows.m, rows.q);
@@ -81,20 +77,15 @@ impl BranchNodeBuilder {
     fn push_chunk(self, part: &mut [u8], base: &Base, rows: &Rows, j: usize, k: usize) -> Self
         requires part_len_bound { (length part.old ≤ 4096)
             × (j + k ≤ 681) × (self.n + k ≤ 681) }
-        requires j_bound { (rows.now.q + self.bit_offset
-            + (start_of base.now.page.now (j + k) - start_of base.now.page.now j)
-            ≤ 8 * length part.old)
-            × (8 * (10 + 2 * base.now.n) + (rows.now.q + start_of base.now.page.now j)
-            + (start_of base.now.page.now (j + k) - start_of base.now.page.now j)
+        requires j_bound { (rows.now.q + self.bit_offset + run_len base.now j k ≤ 8 * length part.old)
+            × (run_start base.now rows.now j + run_len base.now j k
             ≤ 8 * length base.now.page.now) }
         ensures answer { (result.n ≡ self.n + k)
-            × (result.bit_offset ≡ self.bit_offset
-            + (start_of base.now.page.now (j + k) - start_of base.now.page.now j)) }
+            × (result.bit_offset ≡ self.bit_offset + run_len base.now j k) }
         ensures written { bits_of part.new
             ≡ paste (bits_of part.old) (rows.now.q + self.bit_offset)
-            (drop (8 * (10 + 2 * base.now.n) + (rows.now.q + start_of base.now.page.now j))
-            (bits_of base.now.page.now))
-            (start_of base.now.page.now (j + k) - start_of base.now.page.now j) }
+            (drop (run_start base.now rows.now j) (bits_of base.now.page.now))
+            (run_len base.now j k) }
     {
         let from = shape::start_offset(base.page, j);
         let len = shape::start_offset(base.page, j + k).saturating_sub(from);
@@ -109,13 +100,9 @@ impl BranchNodeBuilder {
     // The next rows: a run that the base has, or one row.
     fn push_next(self, part: &mut [u8], base: &Base, rows: &Rows) -> Self
         requires { (self.n < rows.now.n)
-            × Pushed (over_bits base.now.page.now base.now.n base.now.m rows.now.table.now rows.now.m
-            rows.now.q) rows.now.table.now rows.now.n rows.now.m rows.now.q (length part.old)
-            part.old self.bit_offset self.n }
+            × PushedOver base.now rows.now (length part.old) part.old self }
         ensures written { (self.n < result.n)
-            × Pushed (over_bits base.now.page.now base.now.n base.now.m rows.now.table.now rows.now.m
-            rows.now.q) rows.now.table.now rows.now.n rows.now.m rows.now.q (length part.old)
-            part.new result.bit_offset result.n }
+            × PushedOver base.now rows.now (length part.old) part.new result }
     {
         let i = self.n;
         if base.is_kept(rows, i) {
@@ -134,8 +121,7 @@ fn put_bits(part: &mut [u8], base: &Base, rows: &Rows)
         ≤ 8 * length part.old) }
     ensures written { part.new
         ≡ pack (length part.old)
-        (row_bits (over_bits base.now.page.now base.now.n base.now.m rows.now.table.now rows.now.m
-        rows.now.q) rows.now.n rows.now.table.now rows.now.q) }
+        (row_bits (bits_over base.now rows.now) rows.now.n rows.now.table.now rows.now.q) }
 {
     bits::put_key(part, 0, table::key_of(rows.table, 0), 0, rows.q);
     let mut b = BranchNodeBuilder::new();
@@ -148,9 +134,7 @@ fn put_bits(part: &mut [u8], base: &Base, rows: &Rows)
 // Writes the page of the rows.
 fn put_page(out: &mut [u8], number: u32, base: &Base, rows: &Rows)
     requires { length out.old ≡ 4096 }
-    ensures written { out.new
-        ≡ laid_out number rows.now.table.now rows.now.n rows.now.m rows.now.q
-        (over_bits base.now.page.now base.now.n base.now.m rows.now.table.now rows.now.m rows.now.q) }
+    ensures written { out.new ≡ laid_over number base.now rows.now }
 {
     fields::put_header(out, number, rows.n, rows.m, rows.q);
     let a = BranchNodeBuilder::HEADER_SIZE + 2 * rows.n;
@@ -164,9 +148,7 @@ fn put_page(out: &mut [u8], number: u32, base: &Base, rows: &Rows)
 // Writes the page of the rows where it has 4,096 bytes, with the base's help.
 fn write_rows(out: &mut [u8], number: u32, base: &Base, rows: &Rows) -> bool
     ensures { Wrote out.old rows.now.table.now rows.now.n rows.now.m rows.now.q
-        (laid_out number rows.now.table.now rows.now.n rows.now.m rows.now.q
-        (over_bits base.now.page.now base.now.n base.now.m rows.now.table.now rows.now.m rows.now.q))
-        result out.new }
+        (laid_over number base.now rows.now) result out.new }
 {
     if out.len() != BranchNodeBuilder::PAGE_SIZE {
         return false;

@@ -5,14 +5,11 @@ use Rattle.builder.proofs.page.put_bits.Given as goal
 use mathlib.Core.Path.{◌≡◌}
 use Prim.Native.Nat.{◌-◌}
 use lib.ListN.{length}
-use Rattle.builder.specs.Writes.{Pushed}
-use Rattle.builder.specs.Over.{over_bits}
+use Rattle.builder.specs.Passed.{PushedOver}
 
 abbrev pub invariant-loop-b : goal.invariant-loop-b
 invariant-loop-b l =
-    (length l.part ≡ length l.initial.part)
-    × Pushed (over_bits l.base.page.now l.base.n l.base.m l.rows.table.now l.rows.m l.rows.q) l.rows.table.now l.rows.n
-    l.rows.m l.rows.q (length l.part) l.part l.b.bit_offset l.b.n
+    (length l.part ≡ length l.initial.part) × PushedOver l.base l.rows (length l.part) l.part l.b
 
 abbrev pub decreases-loop-b : goal.decreases-loop-b
 decreases-loop-b l = l.rows.n - l.b.n

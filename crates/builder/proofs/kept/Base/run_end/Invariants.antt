@@ -3,8 +3,7 @@
 -- Assumes nothing.
 use Rattle.builder.proofs.kept.Base.run_end.Given as goal
 use Prim.Native.Nat.{◌<◌}
-use Rattle.builder.specs.Over.{Run}
+use Rattle.builder.specs.Passed.{RunOf}
 
 abbrev pub invariant-loop-e : goal.invariant-loop-e
-invariant-loop-e l =
-    Run l.self.page.now l.self.n l.self.m l.rows.table.now l.rows.n l.rows.m l.rows.q l.i l.j l.e × (l.i < l.e)
+invariant-loop-e l = RunOf l.self l.rows l.i l.j l.e × (l.i < l.e)

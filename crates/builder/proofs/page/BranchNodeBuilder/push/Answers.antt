@@ -4,7 +4,7 @@
 use Rattle.std.proofs.Common.{rules}
 use Rattle.builder.proofs.page.BranchNodeBuilder.push.Goals as goal
 use mathlib.Core.List.{List}
-use mathlib.Core.Path.{◌≡◌, ap, ap₂, subst, ◌∙◌}
+use mathlib.Core.Path.{◌≡◌, ap, ap₂, ◌∙◌}
 use Prim.Native.Nat.{ℕ, ◌+◌, ◌-◌, ◌*◌, ◌≤◌}
 use native.Mathlib.Omega.{arith}
 use lib.ListN.{drop, length}
