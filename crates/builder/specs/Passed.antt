@@ -1,5 +1,5 @@
 -- What Writes and Over define, of a base and rows as the code passes them.
--- In order: keeps bits_over RunOf · row_len run_len run_start · laid_over PushedOver.
+-- In order: keeps bits_over RunOf · row_len run_len run_start · PushedOver.
 -- Assumes nothing.
 use Rattle.std.specs.Prelude.{ℕ, ◌+◌, ◌-◌, ◌*◌, Bool, List}
 use Rattle.format.specs.Key.{separator_length}
@@ -9,7 +9,7 @@ use Rattle.parts.specs.Parts.{left_out}
 use Rattle.builder.specs.declared.fitting.Rows.{Rows}
 use Rattle.builder.specs.declared.kept.Base.{Base}
 use Rattle.builder.specs.declared.page.BranchNodeBuilder.{BranchNodeBuilder}
-use Rattle.builder.specs.Writes.{laid_out, Pushed}
+use Rattle.builder.specs.Writes.{Pushed}
 use Rattle.builder.specs.Over.{kept, over_bits, Run}
 
 -- Whether row i has its bits from the base.
@@ -35,10 +35,6 @@ run_len b j k = start_of b.page.now (j + k) - start_of b.page.now j
 -- The base's bit that they start at.
 abbrev pub run_start : Base → Rows → ℕ → ℕ
 run_start b r j = 8 * (10 + 2 * b.n) + (r.q + start_of b.page.now j)
-
--- The page of the rows, with these bits.
-abbrev pub laid_over : ℕ → Base → Rows → List ℕ
-laid_over number b r = laid_out number r.table.now r.n r.m r.q (bits_over b r)
 
 -- A part of size bytes has the prefix and the bits of the rows that the builder counts.
 abbrev pub PushedOver : Base → Rows → ℕ → List ℕ → BranchNodeBuilder → Type 0

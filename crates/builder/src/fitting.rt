@@ -21,8 +21,8 @@ pub(crate) struct Rows<'a> {
 }
 
 impl<'a> Rows<'a> {
-    // None where there is no row, q is over 256 or the body does not fit.
-    pub(crate) fn fitting(table: &'a [u64], n: usize, m: usize, q: usize) -> Option<Rows<'a>>
+    // The rows; none where there is no row, q is over 256 or the body does not fit.
+    pub(crate) fn fitting(table: &'a [u64], n: usize, m: usize, q: usize) -> Option<Self>
         ensures answer { MatchOption result (fitting table.now n m q ≡ false)
             (λ rows. (fitting table.now n m q ≡ true) × (rows.table.now ≡ table.now)
             × (rows.n ≡ n) × (rows.m ≡ m) × (rows.q ≡ q)) }

@@ -24,7 +24,7 @@ impl<'a> Base<'a> {
     ghost use Rattle.builder.specs.Passed.{keeps, RunOf};
 
     // A base of no entries, which has no row.
-    pub(crate) fn none() -> Base<'a>
+    pub(crate) fn none() -> Self
         ensures answer { result.m ≡ 0 }
     {
         Base {
@@ -36,13 +36,7 @@ impl<'a> Base<'a> {
 
     // The base where it can help: its prefix is as long, and it has no more bytes and entries than
     // a page.
-    pub(crate) fn helping(
-        page: &'a [u8],
-        n: usize,
-        m: usize,
-        bq: usize,
-        q: usize,
-    ) -> Option<Base<'a>>
+    pub(crate) fn helping(page: &'a [u8], n: usize, m: usize, bq: usize, q: usize) -> Option<Self>
         ensures answer { MatchOption result (usable page.now n m bq q ≡ false)
             (λ base. (usable page.now n m bq q ≡ true) × (base.page.now ≡ page.now)
             × (base.n ≡ n) × (base.m ≡ m)) }

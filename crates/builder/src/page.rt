@@ -8,17 +8,15 @@
 // The rows of a table go in under a choice of m and q; the offsets, the bits and the pointers are
 // lent on as parts of the page. What is written: `page_under` of format's specs/Normal.antt,
 // specs/Writes.antt and, with the help of a base page, specs/Over.antt.
-ghost use Rattle.std.specs.Prelude.{◌≡◌, ◌+◌, ◌-◌, ◌*◌, ◌≤◌, ◌<◌, length, drop};
+ghost use Rattle.std.specs.Prelude.{◌≡◌, ◌+◌, ◌*◌, ◌≤◌, ◌<◌, length, drop};
 ghost use Rattle.std.proofs.Math.Seq.{paste};
 ghost use Rattle.format.specs.Bits.{bits_of, pack};
-ghost use Rattle.format.specs.Key.{separator_length};
-ghost use Rattle.format.specs.Page.{start_of};
 ghost use Rattle.format.specs.Normal.{sum, page_under};
 ghost use Rattle.rows.specs.Rows.{rows, row_key};
 ghost use Rattle.parts.specs.Parts.{left_out, row_lengths};
-ghost use Rattle.builder.specs.Writes.{row_bits, Wrote};
-ghost use Rattle.builder.specs.Over.{page_over};
-ghost use Rattle.builder.specs.Passed.{bits_over, row_len, run_len, run_start, laid_over, PushedOver};
+ghost use Rattle.builder.specs.Writes.{row_bits, laid_out, Wrote};
+ghost use Rattle.builder.specs.Over.{over_bits, page_over};
+ghost use Rattle.builder.specs.Passed.{bits_over, row_len, run_len, run_start, PushedOver};
 
 use crate::fitting::Rows;
 use crate::kept::Base;
@@ -134,7 +132,9 @@ fn put_bits(part: &mut [u8], base: &Base, rows: &Rows)
 // Writes the page of the rows.
 fn put_page(out: &mut [u8], number: u32, base: &Base, rows: &Rows)
     requires { length out.old ≡ 4096 }
-    ensures written { out.new ≡ laid_over number base.now rows.now }
+    ensures written { out.new
+        ≡ laid_out number rows.now.table.now rows.now.n rows.now.m rows.now.q
+        (bits_over base.now rows.now) }
 {
     fields::put_header(out, number, rows.n, rows.m, rows.q);
     let a = BranchNodeBuilder::HEADER_SIZE + 2 * rows.n;
@@ -145,15 +145,29 @@ fn put_page(out: &mut [u8], number: u32, base: &Base, rows: &Rows)
     fields::put_pointers(&mut out[e..], rows.table, rows.n);
 }
 
-// Writes the page of the rows where it has 4,096 bytes, with the base's help.
-fn write_rows(out: &mut [u8], number: u32, base: &Base, rows: &Rows) -> bool
-    ensures { Wrote out.old rows.now.table.now rows.now.n rows.now.m rows.now.q
-        (laid_over number base.now rows.now) result out.new }
+// Writes the page where it can be written, with the base's help. The rows are put together in here,
+// since a table that is passed in a struct has a length that the compiler no longer knows.
+fn write_rows(
+    out: &mut [u8],
+    number: u32,
+    base: &Base,
+    t: &[u64],
+    n: usize,
+    m: usize,
+    q: usize,
+) -> bool
+    ensures { Wrote out.old t.now n m q
+        (laid_out number t.now n m q
+        (over_bits base.now.page.now base.now.n base.now.m t.now m q))
+        result out.new }
 {
     if out.len() != BranchNodeBuilder::PAGE_SIZE {
         return false;
     }
-    put_page(out, number, base, rows);
+    let Some(chosen) = Rows::fitting(t, n, m, q) else {
+        return false;
+    };
+    put_page(out, number, base, &chosen);
     true
 }
 
@@ -164,10 +178,7 @@ pub fn write_page(out: &mut [u8], number: u32, t: &[u64], n: usize, m: usize, q:
     ensures { Wrote out.old t.now n m q
         (page_under number (rows n t.now) m q) result out.new }
 {
-    let Some(chosen) = Rows::fitting(t, n, m, q) else {
-        return false;
-    };
-    write_rows(out, number, &Base::none(), &chosen)
+    write_rows(out, number, &Base::none(), t, n, m, q)
 }
 
 // The same with the help of a base page said to have bn entries, bm of them compressed by bq bits.
@@ -191,11 +202,8 @@ pub fn write_page_over(
         (page_over number base.now bn bm bq t.now n m q)
         result out.new }
 {
-    let Some(helping) = Base::helping(base, bn, bm, bq, q) else {
-        return write_page(out, number, t, n, m, q);
-    };
-    let Some(chosen) = Rows::fitting(t, n, m, q) else {
-        return false;
-    };
-    write_rows(out, number, &helping, &chosen)
+    match Base::helping(base, bn, bm, bq, q) {
+        Some(helping) => write_rows(out, number, &helping, t, n, m, q),
+        None => write_page(out, number, t, n, m, q),
+    }
 }

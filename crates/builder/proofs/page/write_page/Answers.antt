@@ -9,19 +9,14 @@ use Rattle.rows.specs.Rows.{rows}
 use Rattle.builder.specs.Writes.{laid_out, Wrote}
 use Rattle.builder.specs.Over.{over_bits}
 use Rattle.builder.proofs.page.write_page.Goals as goal
-use Rattle.builder.proofs.WriteLaws.{no_rows, wrote_none}
+use Rattle.builder.proofs.WriteLaws.{wrote_none}
 
 alone : (out base t : List ℕ) (number bn bm n m q : ℕ) (r : Bool) (after : List ℕ) → bm ≡ 0
     → Wrote out t n m q (laid_out number t n m q (over_bits base bn bm t m q)) r after
     → Wrote out t n m q (page_under number (rows n t) m q) r after
 alone out base t number bn bm n m q r after e w = wrote_none out base t number bn n m q r after (rw e at w)
 
-pub returns-in_default : goal.returns-in_default
-returns-in_default c = no_rows _ _ _ _ _ _ c.in_default.ensures.answer
-
 pub returns : goal.returns
 returns c =
-    let rows = c.in-Some.ensures.answer in
     let none = c.none.result in
-    rw (← rows.1, ← rows.2, ← rows.3, ← rows.4)
-    (alone _ none.page.now _ _ none.n none.m _ _ _ _ _ c.none.ensures.answer c.write_rows.ensures)
+    alone _ none.page.now _ _ none.n none.m _ _ _ _ _ c.none.ensures.answer c.write_rows.ensures
