@@ -18,6 +18,7 @@ use Rattle.facts.proofs.AcceptedLaws.{Accepted, accepted-page_refusal, length-pr
 use Rattle.facts.proofs.BitsLaws.{fill_short, length-bits_of}
 use Rattle.facts.proofs.PageLaws.{entry_bits-compressed, prefix_of-compressed, start_of-suc, stored_length_is}
 use Rattle.words.proofs.WindowLaws.{drop-bits_of}
+use Rattle.rows.specs.declared.table.Row.{Row}
 use Rattle.rows.specs.Rows.{rows, row_key, row_source}
 use Rattle.builder.specs.Writes.{own_bits, laid_out, Wrote}
 use Rattle.builder.specs.Over.{usable, kept, base_bits, over_bits, page_over, Based}
@@ -58,7 +59,7 @@ BaseBits-body p bn q a len en eq =
 
 -- ---- a kept row's bits
 
-module _ (p t : List ℕ) (n bn bm m q : ℕ) (b : Based p t n bn bm q) (i : ℕ) (h : i < n) where
+module _ (p : List ℕ) (t : List Row) (n bn bm m q : ℕ) (b : Based p t n bn bm q) (i : ℕ) (h : i < n) where
   inside-body : kept p bn bm t m q i ≡ true → stored_length p (row_source t i) ≡ separator_length (row_key t i) - q
       → 10 + 2 * bn ≤ length p
       → stored_length p (row_source t i) ≤ length (drop (prefix_length p + start_of p (row_source t i)) (body p))
@@ -117,7 +118,7 @@ same_prefix : (p : List ℕ) (bn bm bq q : ℕ) → usable p bn bm bq q ≡ true
 unfolding usable
 same_prefix p bn bm bq q e = eqb-true bq q (all_four (eqb bq q) (leb (length p) 4096) (leb bn 681) (leb bm 681) e).0
 
-pub page_over_based : (number : ℕ) (p t : List ℕ) (n bn bm bq m q : ℕ) → Based p t n bn bm bq → 1 ≤ n
+pub page_over_based : (number : ℕ) (p : List ℕ) (t : List Row) (n bn bm bq m q : ℕ) → Based p t n bn bm bq → 1 ≤ n
     → page_over number p bn bm bq t n m q ≡ page_under number (rows n t) m q
 unfolding page_over
 page_over_based number p t n bn bm bq m q b h = go (usable p bn bm bq q) refl
@@ -134,7 +135,7 @@ page_over_based number p t n bn bm bq m q b h = go (usable p bn bm bq q) refl
 -- ---- for callers
 
 -- With a base that is what it is said to be, `write_page_over` answers and leaves what `write_page` does.
-pub wrote_based : (out p t : List ℕ) (number n bn bm bq m q : ℕ) (r : Bool) (after : List ℕ) → Based p t n bn bm bq
+pub wrote_based : (out p : List ℕ) (t : List Row) (number n bn bm bq m q : ℕ) (r : Bool) (after : List ℕ) → Based p t n bn bm bq
     → Wrote out t n m q (page_over number p bn bm bq t n m q) r after
     → Wrote out t n m q (page_under number (rows n t) m q) r after
 wrote_based out p t number n bn bm bq m q r after b w =

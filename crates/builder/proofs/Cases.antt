@@ -9,24 +9,25 @@ use Prim.Native.Nat.{ℕ, ◌*◌, ◌^◌}
 use Rattle.format.specs.Normal.{page_under}
 use Rattle.format.specs.Page.{each}
 use Rattle.format.proofs.Samples.{blank, hex, zeros}
+use Rattle.rows.specs.declared.table.Row.{Row}
 use Rattle.rows.specs.Rows.{rows}
 use Rattle.parts.specs.Parts.{row_lengths}
 use Rattle.builder.specs.Writes.{own_bits, writable}
 use Rattle.builder.specs.Over.{kept, over_bits, page_over}
 
 -- The row of the key with this first byte, the rest zero, with a pointer and a source.
-unfoldable pub row : ℕ → ℕ → ℕ → List ℕ
-row b pointer source = b * 2 ^ 56 ∷ 0 ∷ 0 ∷ 0 ∷ pointer ∷ source ∷ []
+unfoldable pub row : ℕ → ℕ → ℕ → Row
+row first at from = record { key = record { a = first * 2 ^ 56; b = 0; c = 0; d = 0 }; pointer = at; source = from }
 
 -- Keys 80, 84 and C0 with pointers 17, 34 and 51, the base's entries 0, 1 and 2.
-unfoldable pub three : List ℕ
+unfoldable pub three : List Row
 unfolding row
-three = row 0x80 17 0 ++ row 0x84 34 1 ++ row 0xC0 51 2
+three = row 0x80 17 0 ∷ row 0x84 34 1 ∷ row 0xC0 51 2 ∷ []
 
 -- Key 80 with pointer 17, the base's entry 0, and a base that stores it as the two bits 10.
-unfoldable pub one : List ℕ
+unfoldable pub one : List Row
 unfolding row
-one = row 0x80 17 0
+one = row 0x80 17 0 ∷ []
 
 unfoldable pub padded : List ℕ
 unfolding blank hex

@@ -11,6 +11,7 @@ use lib.Seq.{take_at}
 use Rattle.format.specs.Bits.{pack, le}
 use Rattle.format.specs.Page.{body_bytes}
 use Rattle.format.specs.Normal.{words, running, sum, pointers}
+use Rattle.rows.specs.declared.table.Row.{Row}
 use Rattle.rows.specs.Rows.{rows}
 use Rattle.facts.proofs.BitsLaws.{length-pack, bytes_for-holds}
 use Rattle.facts.proofs.StoredLaws.{length-running, length-words}
@@ -71,7 +72,7 @@ length_header number n m q = refl
 
 -- ---- the bit part
 
-module _ (d₁ o t : List ℕ) (n m q : ℕ) (eo : o ≡ with_offsets (mid_of 10 ((10 + 2 * n) - 10) d₁) t n m q) (hn : n ≤ 681)
+module _ (d₁ o : List ℕ) (t : List Row) (n m q : ℕ) (eo : o ≡ with_offsets (mid_of 10 ((10 + 2 * n) - 10) d₁) t n m q) (hn : n ≤ 681)
     (l : length d₁ ≡ 4096) where
   is_offsets : o ≡ words 2 (running 0 (row_lengths n t m q))
   is_offsets =

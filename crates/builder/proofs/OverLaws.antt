@@ -11,6 +11,7 @@ use borrow.Author.Tests.{eq-eqb, ne_eqb, lt-ltb, le-ltb, eqb-true, ltb-true, leb
 use lib.Dec.{eqb, ltb, leb}
 use lib.ListN.{length, take, drop, length-drop}
 use lib.Seq.{paste, take-add, drop-drop}
+use Rattle.std.specs.Prelude.{⊤, Result}
 use Rattle.format.specs.Bits.{bits_of}
 use Rattle.format.specs.Key.{separator_length}
 use Rattle.format.specs.Page.{end_of, start_of}
@@ -18,9 +19,10 @@ use Rattle.format.specs.Normal.{sum}
 use Rattle.facts.proofs.BitsLaws.{length-bits_of}
 use Rattle.facts.proofs.PageLaws.{start_of-suc}
 use Rattle.facts.proofs.StoredLaws.{sum-take-suc, sum-take-le}
-use Rattle.format.specs.declared.refusal.Outcome.{Outcome}
+use Rattle.format.specs.declared.refusal.Refusal.{Refusal}
 use Rattle.bit_copy.specs.Calls.{Copied}
 use Rattle.parts.proofs.BitLaws.{copied}
+use Rattle.rows.specs.declared.table.Row.{Row}
 use Rattle.rows.specs.Rows.{row_key, row_source}
 use Rattle.parts.specs.Parts.{left_out, row_lengths}
 use Rattle.builder.specs.Writes.{own_bits, rows_bits, Pushed}
@@ -39,7 +41,7 @@ all_four true true false d e = absurd (false≢true e)
 all_four true false c d e = absurd (false≢true e)
 all_four false b c d e = absurd (false≢true e)
 
-module _ (base : List ℕ) (bn bm : ℕ) (t : List ℕ) (m q i : ℕ) where
+module _ (base : List ℕ) (bn bm : ℕ) (t : List Row) (m q i : ℕ) where
   -- what a kept row is
   module _ (k : kept base bn bm t m q i ≡ true) where
     tests : (ltb i m ≡ true) × (ltb (row_source t i) bm ≡ true)
@@ -132,7 +134,7 @@ BaseBits-none : (base : List ℕ) (bn q a : ℕ) → base_bits base bn q a 0 ≡
 unfolding base_bits
 BaseBits-none base bn q a = refl
 
-module _ (base : List ℕ) (bn bm : ℕ) (t : List ℕ) (n m q i j : ℕ) where
+module _ (base : List ℕ) (bn bm : ℕ) (t : List Row) (n m q i j : ℕ) where
   -- no row yet, before one that is kept
   run_start : i < n → j ≡ row_source t i → kept base bn bm t m q i ≡ true → Run base bn bm t n m q i j i
   run_start h ej k =
@@ -245,7 +247,7 @@ module _ (base : List ℕ) (bn bm : ℕ) (t : List ℕ) (n m q i j : ℕ) where
 
 -- ---- what `is_kept` answers
 
-module _ (base : List ℕ) (bn bm : ℕ) (t : List ℕ) (m q i : ℕ) (b : Bool) (e : b ≡ kept base bn bm t m q i) where
+module _ (base : List ℕ) (bn bm : ℕ) (t : List Row) (m q i : ℕ) (b : Bool) (e : b ≡ kept base bn bm t m q i) where
   pub kept-true : b ≡ true → kept base bn bm t m q i ≡ true
   kept-true h = sym e ∙ h
 
@@ -270,7 +272,7 @@ module _ (base : List ℕ) (bn q j k f g x : ℕ) (ef : f ≡ start_of base j) (
   moved_length : x ≡ start_of base (j + k) - start_of base j
   moved_length = ex ∙ ap₂ ◌-◌ eg ef
 
-  pub moved : (d d' : List ℕ) (at : ℕ) (r : Outcome) → Copied d at base (8 * (10 + 2 * bn) + (q + f)) x r d'
+  pub moved : (d d' : List ℕ) (at : ℕ) (r : Result ⊤ Refusal) → Copied d at base (8 * (10 + 2 * bn) + (q + f)) x r d'
       → at + (start_of base (j + k) - start_of base j) ≤ 8 * length d
       → 8 * (10 + 2 * bn) + (q + start_of base j) + (start_of base (j + k) - start_of base j) ≤ 8 * length base
       → bits_of d'
@@ -283,7 +285,7 @@ module _ (base : List ℕ) (bn q j k f g x : ℕ) (ef : f ≡ start_of base j) (
 
 -- ---- no base
 
-pub over_bits-none : (base : List ℕ) (bn : ℕ) (t : List ℕ) (m q i : ℕ) → over_bits base bn 0 t m q i ≡ own_bits t m q i
+pub over_bits-none : (base : List ℕ) (bn : ℕ) (t : List Row) (m q i : ℕ) → over_bits base bn 0 t m q i ≡ own_bits t m q i
 over_bits-none base bn t m q i = go (kept base bn 0 t m q i) refl
   where
     go : (b : Bool) → kept base bn 0 t m q i ≡ b → over_bits base bn 0 t m q i ≡ own_bits t m q i

@@ -14,6 +14,7 @@ use Rattle.format.specs.Normal.{sum}
 use Rattle.facts.proofs.BitsLaws.{length-bits_of}
 use Rattle.facts.proofs.KeyLaws.{separator_length_bound}
 use Rattle.facts.proofs.StoredLaws.{sum-take-le, sum-take-suc}
+use Rattle.rows.specs.declared.table.Row.{Row}
 use Rattle.rows.specs.Rows.{row_key}
 use Rattle.parts.specs.Parts.{left_out, row_lengths, cleared, with_key}
 use Rattle.parts.proofs.BitLaws.{bits_of-with_key}
@@ -24,7 +25,7 @@ use Rattle.builder.proofs.RowLaws.{rows_bits_next}
 
 -- ---- the bits
 
-module _ (f : ℕ → List ℕ) (t : List ℕ) (n m q : ℕ) where
+module _ (f : ℕ → List ℕ) (t : List Row) (n m q : ℕ) where
   -- the prefix
   pub pushed_start : (part₀ part k : List ℕ) (bit i : ℕ) → 0 < n → n ≤ 681 → q ≤ 256 → length part₀ ≤ 4096
       → q + sum (row_lengths n t m q) ≤ 8 * length part₀

@@ -8,6 +8,7 @@ use native.Mathlib.Decide.{dec_le}
 use lib.ListN.{length, take, drop}
 use Rattle.format.specs.Key.{separator_length}
 use Rattle.format.specs.Normal.{stored_bits, first_key}
+use Rattle.rows.specs.declared.table.Row.{Row}
 use Rattle.rows.specs.Rows.{row_key}
 use Rattle.parts.specs.Parts.{left_out, row_keys}
 use Rattle.parts.proofs.RowLaws.{left_out_in, left_out_past, length-row_keys, row_keys-cons}
@@ -26,7 +27,7 @@ unfolding stored_bits
 bits_short j q k ks = refl
 
 -- the bits stored of row i, and those of the keys behind it
-stored_bits_row : (t : List ℕ) (m q i : ℕ) (ks : List (List ℕ))
+stored_bits_row : (t : List Row) (m q i : ℕ) (ks : List (List ℕ))
     → stored_bits (m - i) q (row_key t i ∷ ks) ≡ own_bits t m q i ++ stored_bits (m - suc i) q ks
 unfolding own_bits
 stored_bits_row t m q i ks = go (dec_le m i)
@@ -45,7 +46,7 @@ stored_bits_row t m q i ks = go (dec_le m i)
         rw (a, ← left_out_in m q i g) (bits_short (m - suc i) q (row_key t i) ks)
 
 -- the bits of k rows from i on are those stored of their keys
-rows_bits_own : (t : List ℕ) (n m q k i : ℕ) → i + k ≡ n
+rows_bits_own : (t : List Row) (n m q k i : ℕ) → i + k ≡ n
     → rows_bits (own_bits t m q) k i ≡ stored_bits (m - i) q (drop i (row_keys n t))
 unfolding rows_bits stored_bits
 rows_bits_own t n m q zero i e =
@@ -57,7 +58,7 @@ rows_bits_own t n m q (suc k) i e =
     ∙ sym (ap (stored_bits (m - i) q) (row_keys-cons n t i h) ∙ stored_bits_row t m q i (drop (suc i) (row_keys n t)))
 
 -- so the bits of a page of n rows are those of the page under the choice
-pub row_bits_own : (t : List ℕ) (n m q : ℕ) → 0 < n
+pub row_bits_own : (t : List Row) (n m q : ℕ) → 0 < n
     → row_bits (own_bits t m q) n t q ≡ take q (first_key (row_keys n t)) ++ stored_bits m q (row_keys n t)
 unfolding row_bits first_key
 row_bits_own t n m q h =

@@ -19,6 +19,7 @@ use Rattle.format.specs.Normal.{stored_lengths, sum, words}
 use Rattle.facts.proofs.ChoiceLaws.{choice_permitted, fits-true, permitted_shared}
 use Rattle.facts.proofs.EntryLaws.{length-keys}
 use Rattle.facts.proofs.StoredLaws.{shared_by_all_bound}
+use Rattle.rows.specs.declared.table.Row.{Row}
 use Rattle.rows.specs.Rows.{rows}
 use Rattle.rows.proofs.RowsLaws.{length-rows}
 use Rattle.parts.proofs.PartLaws.{stored_sum_in}
@@ -30,7 +31,7 @@ use Rattle.builder.proofs.OverLaws.{all_four, over_bits-none}
 
 -- ---- whether a page can hold the rows
 
-module _ (t : List ℕ) (n m q : ℕ) where
+module _ (t : List Row) (n m q : ℕ) where
   pub no_row : n < 1 → fitting t n m q ≡ false
   unfolding fitting
   no_row h = rw (le-ltb 0 n (omega arith))
@@ -79,7 +80,7 @@ module _ (t : List ℕ) (n m q : ℕ) where
 
 -- ---- the answer
 
-module _ (out t : List ℕ) (n m q : ℕ) (page : List ℕ) where
+module _ (out : List ℕ) (t : List Row) (n m q : ℕ) (page : List ℕ) where
   unchanged : writable out t n m q ≡ false → Wrote out t n m q page false out
   unchanged e = record { answer = sym e; written = sym (ap (λ (b : Bool). cond b page out) e) }
 
@@ -109,7 +110,7 @@ module _ (out t : List ℕ) (n m q : ℕ) (page : List ℕ) where
       record { answer = sym w; written = ea ∙ sym (ap (λ (b : Bool). cond b page out) w) }
 
 -- where it can be written there is a row
-writable_row : (out t : List ℕ) (n m q : ℕ) → writable out t n m q ≡ true → 1 ≤ n
+writable_row : (out : List ℕ) (t : List Row) (n m q : ℕ) → writable out t n m q ≡ true → 1 ≤ n
 unfolding writable
 writable_row out t n m q e =
     ltb-true 0 n (all_four (eqb (length out) 4096) (ltb 0 n) (leb q 256)
@@ -117,12 +118,12 @@ writable_row out t n m q e =
 
 -- ---- the page of the rows' own bits
 
-pub laid_out_same : (number : ℕ) (t : List ℕ) (n m q : ℕ) (f g : ℕ → List ℕ) → ((i : ℕ) → i < n → f i ≡ g i)
+pub laid_out_same : (number : ℕ) (t : List Row) (n m q : ℕ) (f g : ℕ → List ℕ) → ((i : ℕ) → i < n → f i ≡ g i)
     → laid_out number t n m q f ≡ laid_out number t n m q g
 unfolding laid_out row_bits
 laid_out_same number t n m q f g e = rw (rows_bits_same f g n 0 n (omega arith) e)
 
-pub laid_out_own : (number : ℕ) (t : List ℕ) (n m q : ℕ) → 1 ≤ n
+pub laid_out_own : (number : ℕ) (t : List Row) (n m q : ℕ) → 1 ≤ n
     → laid_out number t n m q (own_bits t m q) ≡ page_under number (rows n t) m q
 unfolding laid_out header_bytes page_under row_lengths row_keys
 laid_out_own number t n m q h =
@@ -132,7 +133,7 @@ laid_out_own number t n m q h =
     (sym (length-rows n t)) (row_bits_own t n m q h)
 
 -- a call that is to write one page writes any other that is the same where it can be written
-pub wrote_same : (out t : List ℕ) (n m q : ℕ) (page page' : List ℕ) (r : Bool) (after : List ℕ)
+pub wrote_same : (out : List ℕ) (t : List Row) (n m q : ℕ) (page page' : List ℕ) (r : Bool) (after : List ℕ)
     → Wrote out t n m q page r after
     → (1 ≤ n → page ≡ page')
     → Wrote out t n m q page' r after
@@ -144,7 +145,7 @@ wrote_same out t n m q page page' r after w e =
     go false p = refl
 
 -- no base: each row has its own bits
-pub wrote_none : (out base t : List ℕ) (number bn n m q : ℕ) (r : Bool) (after : List ℕ)
+pub wrote_none : (out base : List ℕ) (t : List Row) (number bn n m q : ℕ) (r : Bool) (after : List ℕ)
     → Wrote out t n m q (laid_out number t n m q (over_bits base bn 0 t m q)) r after
     → Wrote out t n m q (page_under number (rows n t) m q) r after
 wrote_none out base t number bn n m q r after w =
@@ -177,7 +178,7 @@ module _ (base : List ℕ) (bn bm bq q : ℕ) where
   unfolding usable
   helps e l h k = rw (eq-eqb bq q e, le-leb (length base) 4096 l, le-leb bn 681 h, le-leb bm 681 k)
 
-module _ (out base t : List ℕ) (number bn bm bq n m q : ℕ) (r : Bool) (after : List ℕ) where
+module _ (out base : List ℕ) (t : List Row) (number bn bm bq n m q : ℕ) (r : Bool) (after : List ℕ) where
   pub wrote_over : usable base bn bm bq q ≡ true
       → Wrote out t n m q (laid_out number t n m q (over_bits base bn bm t m q)) r after
       → Wrote out t n m q (page_over number base bn bm bq t n m q) r after
@@ -192,7 +193,7 @@ module _ (out base t : List ℕ) (number bn bm bq n m q : ℕ) (r : Bool) (after
 -- ---- for callers
 
 -- The page of rows that fit, under the normal page's choice, can be written ..
-pub writable_normal : (out t : List ℕ) (n m q : ℕ) → length out ≡ 4096 → 1 ≤ n → fits (rows n t) ≡ true
+pub writable_normal : (out : List ℕ) (t : List Row) (n m q : ℕ) → length out ≡ 4096 → 1 ≤ n → fits (rows n t) ≡ true
     → m ≡ (choice (keys (rows n t))).m
     → q ≡ (choice (keys (rows n t))).q
     → writable out t n m q ≡ true
@@ -217,7 +218,7 @@ writable_normal out t n m q l h f em eq =
     writable_room out t n m q out l h bound r
 
 -- .. and is the normal page: so `write_page` answers true and leaves it
-pub wrote_normal : (out t : List ℕ) (number n m q : ℕ) (r : Bool) (after : List ℕ) → length out ≡ 4096 → 1 ≤ n
+pub wrote_normal : (out : List ℕ) (t : List Row) (number n m q : ℕ) (r : Bool) (after : List ℕ) → length out ≡ 4096 → 1 ≤ n
     → fits (rows n t) ≡ true
     → m ≡ (choice (keys (rows n t))).m
     → q ≡ (choice (keys (rows n t))).q

@@ -6,11 +6,12 @@ ghost use Rattle.parts.specs.Parts.{row_lengths};
 ghost use Rattle.builder.specs.Writes.{fitting};
 
 use parts::fields;
+use rows::table::Row;
 
 // The first n rows of a table, under a choice of m and q that fits a page.
 #[derive(Clone, Copy)]
 pub(crate) struct Rows<'a> {
-    pub(crate) table: &'a [u64],
+    pub(crate) table: &'a [Row],
     pub(crate) n: usize,
     pub(crate) m: usize,
     pub(crate) q: usize,
@@ -22,7 +23,7 @@ pub(crate) struct Rows<'a> {
 
 impl<'a> Rows<'a> {
     // The rows; none where there is no row, q is over 256 or the body does not fit.
-    pub(crate) fn fitting(table: &'a [u64], n: usize, m: usize, q: usize) -> Option<Self>
+    pub(crate) fn fitting(table: &'a [Row], n: usize, m: usize, q: usize) -> Option<Self>
         ensures answer { MatchOption result (fitting table.now n m q ≡ false)
             (λ rows. (fitting table.now n m q ≡ true) × (rows.table.now ≡ table.now)
             × (rows.n ≡ n) × (rows.m ≡ m) × (rows.q ≡ q)) }

@@ -23,6 +23,7 @@ use crate::kept::Base;
 use format::layout;
 use parts::{bits, fields};
 use rows::table;
+use rows::table::Row;
 
 // How far the bits of a page are written: n entries, and the end of the last one's separator in
 // bits from the prefix's end.
@@ -151,7 +152,7 @@ fn write_rows(
     out: &mut [u8],
     number: u32,
     base: &Base,
-    t: &[u64],
+    t: &[Row],
     n: usize,
     m: usize,
     q: usize,
@@ -174,7 +175,7 @@ fn write_rows(
 // Writes the page of the table's first n rows under the choice of m and q, whatever it held before,
 // and answers true. Where the page has not 4,096 bytes, there is no row, q is over 256 or the body
 // does not fit, the answer is false and the page is as it was.
-pub fn write_page(out: &mut [u8], number: u32, t: &[u64], n: usize, m: usize, q: usize) -> bool
+pub fn write_page(out: &mut [u8], number: u32, t: &[Row], n: usize, m: usize, q: usize) -> bool
     ensures { Wrote out.old t.now n m q
         (page_under number (rows n t.now) m q) result out.new }
 {
@@ -193,7 +194,7 @@ pub fn write_page_over(
     bn: usize,
     bm: usize,
     bq: usize,
-    t: &[u64],
+    t: &[Row],
     n: usize,
     m: usize,
     q: usize,

@@ -5,13 +5,14 @@ use mathlib.Core.List.{List}
 use mathlib.Core.Path.{◌≡◌}
 use Prim.Native.Nat.{ℕ}
 use Rattle.format.specs.Normal.{page_under}
+use Rattle.rows.specs.declared.table.Row.{Row}
 use Rattle.rows.specs.Rows.{rows}
 use Rattle.builder.specs.Writes.{laid_out, Wrote}
 use Rattle.builder.specs.Over.{over_bits}
 use Rattle.builder.proofs.page.write_page.Goals as goal
 use Rattle.builder.proofs.WriteLaws.{wrote_none}
 
-alone : (out base t : List ℕ) (number bn bm n m q : ℕ) (r : Bool) (after : List ℕ) → bm ≡ 0
+alone : (out base : List ℕ) (t : List Row) (number bn bm n m q : ℕ) (r : Bool) (after : List ℕ) → bm ≡ 0
     → Wrote out t n m q (laid_out number t n m q (over_bits base bn bm t m q)) r after
     → Wrote out t n m q (page_under number (rows n t) m q) r after
 alone out base t number bn bm n m q r after e w = wrote_none out base t number bn n m q r after (rw e at w)
