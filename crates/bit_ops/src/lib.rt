@@ -9,7 +9,7 @@ ghost use Rattle.format.specs.Bits.{bits_of, fill, pack};
 ghost use Rattle.format.specs.Key.{below, shared_bits, separator_length};
 ghost use Rattle.bit_ops.specs.Calls.{Separated, Rebuilt};
 
-use format::refusal::{Outcome, Refusal};
+use format::refusal::Refusal;
 use keys::Key;
 
 // Separator length: 256 less the zero bits at the key's end, and 1 for the all-zero key. By the
@@ -29,7 +29,7 @@ pub fn prefix_len(a: &[u8; 32], b: &[u8; 32]) -> usize
 {
     let x = &a[..];
     let y = &b[..];
-    let mut n: usize = 0;
+    let mut n = 0;
     'bytes: for byte in 0..32usize {
         for bit in 0..8u8 {
             let mask = 1u8 << (7 - bit);
@@ -72,15 +72,15 @@ fn put_first(b: &[u8; 32], n: usize, out: &mut [u8; 32])
 
 // Separate a and b, a < b: `out` becomes the first (shared + 1) bits of b, then zeros. Refused with
 // 17 where a is not below b, and then `out` is as it was.
-pub fn separate(a: &[u8; 32], b: &[u8; 32], out: &mut [u8; 32]) -> Outcome
+pub fn separate(a: &[u8; 32], b: &[u8; 32], out: &mut [u8; 32]) -> Result<(), Refusal>
     ensures { Separated a.now b.now out.old result out.new }
 {
     if !is_below(a, b) {
-        return Outcome::Refused(Refusal::NotBelow);
+        return Err(Refusal::NotBelow);
     }
     let n = prefix_len_by_words(a, b);
     put_first(b, n + 1, out);
-    Outcome::Done
+    Ok(())
 }
 
 // Key rebuilding: `out` becomes the first `prefix_bits` bits of prefix, the `bits` bits of
@@ -93,23 +93,23 @@ pub fn reconstruct_key(
     start: usize,
     bits: usize,
     out: &mut [u8; 32],
-) -> Outcome
+) -> Result<(), Refusal>
     ensures { Rebuilt prefix.now prefix_bits separator.now start bits out.old result out.new }
 {
     if !bit_copy::lies_inside(prefix.len(), 0, prefix_bits) {
-        return Outcome::Refused(Refusal::RangeOutside);
+        return Err(Refusal::RangeOutside);
     }
     if !bit_copy::lies_inside(separator.len(), start, bits) {
-        return Outcome::Refused(Refusal::RangeOutside);
+        return Err(Refusal::RangeOutside);
     }
     if 256 < prefix_bits {
-        return Outcome::Refused(Refusal::Unrepresentable);
+        return Err(Refusal::Unrepresentable);
     }
     if 256 - prefix_bits < bits {
-        return Outcome::Refused(Refusal::Unrepresentable);
+        return Err(Refusal::Unrepresentable);
     }
     let k = Key::zero().with_bits(0, prefix, 0, prefix_bits);
     k.with_bits(prefix_bits, separator, start, bits)
         .to_bytes(out);
-    Outcome::Done
+    Ok(())
 }

@@ -14,14 +14,14 @@ use lib.Seq.{length-take-le}
 use Rattle.format.specs.Bits.{bits_of, fill, pack}
 use Rattle.format.specs.Answer.{refusal_of, afterwards, first, unless}
 use Rattle.format.specs.Ranges.{inside, rebuild_key}
-use Rattle.format.specs.declared.refusal.Outcome.TheVariants.{Done, Refused}
+use Rattle.std.specs.Prelude.{Ok, Err}
 use Rattle.format.specs.declared.refusal.Refusal.TheVariants.{RangeOutside, Unrepresentable}
 use Rattle.facts.proofs.BitsLaws.{fill_exact, take-fill}
 use Rattle.bit_ops.specs.Calls.{Rebuilt}
 use Rattle.bit_copy.proofs.RunLaws.{inside_room}
 
 module _ (x : List ℕ) (p : ℕ) (y : List ℕ) (at n : ℕ) (out : List ℕ) (f : Bool) (ef : f ≡ inside (length x) 0 p) where
-  out_prefix : not f ≡ true → Rebuilt x p y at n out (Refused RangeOutside) out
+  out_prefix : not f ≡ true → Rebuilt x p y at n out (Err RangeOutside) out
   unfolding rebuild_key unless first refusal_of afterwards
   out_prefix t =
       let i : inside (length x) 0 p ≡ false = sym ef ∙ not-true f t in
@@ -31,7 +31,7 @@ module _ (x : List ℕ) (p : ℕ) (y : List ℕ) (at n : ℕ) (out : List ℕ) (
     ix : inside (length x) 0 p ≡ true
     ix = sym ef ∙ not-false f tf
 
-    out_separator : not g ≡ true → Rebuilt x p y at n out (Refused RangeOutside) out
+    out_separator : not g ≡ true → Rebuilt x p y at n out (Err RangeOutside) out
     unfolding rebuild_key unless first refusal_of afterwards
     out_separator t =
         let i : inside (length y) at n ≡ false = sym eg ∙ not-true g t in
@@ -41,20 +41,20 @@ module _ (x : List ℕ) (p : ℕ) (y : List ℕ) (at n : ℕ) (out : List ℕ) (
       iy : inside (length y) at n ≡ true
       iy = sym eg ∙ not-false g tg
 
-      too_long : 256 < p + n → Rebuilt x p y at n out (Refused Unrepresentable) out
+      too_long : 256 < p + n → Rebuilt x p y at n out (Err Unrepresentable) out
       unfolding rebuild_key unless first refusal_of afterwards
       too_long l = record { answer = rw (ix, iy, lt-ltb 256 (p + n) l); written = rw (ix, iy, lt-ltb 256 (p + n) l) }
 
-      long_prefix : 256 < p → Rebuilt x p y at n out (Refused Unrepresentable) out
+      long_prefix : 256 < p → Rebuilt x p y at n out (Err Unrepresentable) out
       long_prefix l = too_long (omega arith)
 
-      long_separator : p ≤ 256 → 256 - p < n → Rebuilt x p y at n out (Refused Unrepresentable) out
+      long_separator : p ≤ 256 → 256 - p < n → Rebuilt x p y at n out (Err Unrepresentable) out
       long_separator l m = too_long (omega arith)
 
       made : p ≤ 256 → n ≤ 256 - p → (k w : List ℕ) → k ≡ pack 32 w → (v : List ℕ)
           → w ≡ fill 256 (take p v ++ take n (drop at (bits_of y)))
           → v ≡ fill 256 (take p (bits_of x))
-          → Rebuilt x p y at n out Done k
+          → Rebuilt x p y at n out (Ok tt) k
       unfolding rebuild_key unless first refusal_of afterwards
       made l m k w ek v ew ev =
           let h : p + n ≤ 256 = omega arith in

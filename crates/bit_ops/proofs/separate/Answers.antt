@@ -13,13 +13,13 @@ use Rattle.format.specs.Bits.{bits_of, fill, pack}
 use Rattle.format.specs.Key.{below, shared_bits, separator}
 use Rattle.format.specs.Answer.{refusal_of, afterwards, first, unless}
 use Rattle.format.specs.Ranges.{separate}
-use Rattle.format.specs.declared.refusal.Outcome.TheVariants.{Done, Refused}
+use Rattle.std.specs.Prelude.{Ok, Err}
 use Rattle.format.specs.declared.refusal.Refusal.TheVariants.{NotBelow}
 use Rattle.bit_ops.specs.Calls.{Separated}
 
 -- f is whether a is below b
 module _ (a b out : List ℕ) (f : Bool) (ef : f ≡ below (bits_of a) (bits_of b)) where
-  refused : not f ≡ true → Separated a b out (Refused NotBelow) out
+  refused : not f ≡ true → Separated a b out (Err NotBelow) out
   unfolding separate unless first refusal_of afterwards
   refused t =
       let p : below (bits_of a) (bits_of b) ≡ false = sym ef ∙ not-true f t in
@@ -27,7 +27,7 @@ module _ (a b out : List ℕ) (f : Bool) (ef : f ≡ below (bits_of a) (bits_of 
 
   made : not f ≡ false → (n : ℕ) → n ≡ shared_bits (bits_of a) (bits_of b) → (k : List ℕ)
       → k ≡ pack 32 (fill 256 (take (n + 1) (bits_of b)))
-      → Separated a b out Done k
+      → Separated a b out (Ok tt) k
   unfolding separate unless first refusal_of afterwards separator
   made t n en k ek =
       let p : below (bits_of a) (bits_of b) ≡ true = sym ef ∙ not-false f t in
