@@ -11,24 +11,14 @@ ghost use Rattle.view.specs.Seen.{seen_answer};
 use format::refusal::Refusal;
 use keys::Key;
 use node::reader;
-use node::reader::EntryRead;
 
-// What reading an entry answers: its key and pointer, or one of 1 to 8, or 16.
-#[derive(Clone, Copy)]
-pub enum Seen {
-    Entry(Key, u64),
-    Refused(Refusal),
-}
-
-// Entry `index` of a page; refused with 1 to 8, then with 16 where the page has no such entry.
-pub fn read_at(page: &[u8], index: usize) -> Seen
+// Entry `index` of a page, its key and pointer; refused with 1 to 8, then with 16 where the page has no such entry.
+pub fn read_at(page: &[u8], index: usize) -> Result<(Key, u64), Refusal>
     ensures answer { seen_answer result ≡ read_entry page.now index }
 {
     let mut key = [0u8; 32];
-    match reader::entry(page, index, &mut key) {
-        EntryRead::Refused(r) => Seen::Refused(r),
-        EntryRead::Pointer(p) => Seen::Entry(Key::from_bytes(&key), p),
-    }
+    let pointer = reader::entry(page, index, &mut key)?;
+    Ok((Key::from_bytes(&key), pointer))
 }
 
 // A page, by its bytes. Any bytes will do: they are checked when an entry is read.
@@ -46,7 +36,7 @@ impl<'a> BranchNodeView<'a> {
     }
 
     // Entry `index` of the page, as `read_at` has it.
-    pub fn entry(self, index: usize) -> Seen
+    pub fn entry(self, index: usize) -> Result<(Key, u64), Refusal>
         ensures answer { seen_answer result ≡ read_entry self.entry.inner.now index }
     {
         read_at(self.inner, index)
@@ -54,7 +44,7 @@ impl<'a> BranchNodeView<'a> {
 }
 
 // Entry `index` of a page, through its view.
-pub fn read_entry(page: &[u8], index: usize) -> Seen
+pub fn read_entry(page: &[u8], index: usize) -> Result<(Key, u64), Refusal>
     ensures answer { seen_answer result ≡ read_entry page.now index }
 {
     BranchNodeView::from_slice(page).entry(index)

@@ -13,12 +13,12 @@ use Rattle.format.specs.Refusals.{refusal_number}
 use Rattle.format.specs.declared.refusal.Refusal.{Refusal}
 use Rattle.facts.proofs.BitsLaws.{bits_of-pack, fill_exact}
 use Rattle.facts.proofs.PageLaws.{key_of-key}
+use Rattle.facts.proofs.RefusalLaws.{err_handed}
+use Rattle.view.specs.Seen.{seen_answer}
 use Rattle.keys.specs.Keys.{key_bits}
 use Rattle.keys.specs.declared.Key.{Key}
-use Rattle.node.specs.declared.reader.EntryRead.{EntryRead}
-use Rattle.node.specs.declared.reader.EntryRead.TheVariants.{Pointer, Refused}
+use Rattle.std.specs.Prelude.{Result, Ok, Err, IsErr, IsErrAnd}
 use Rattle.node.specs.Reader.{entry_answer, key_bytes, pointer_read}
-use Rattle.std.proofs.Common.{rules}
 use Rattle.view.proofs.read_at.Goals as goal
 
 -- 1 for a refusal.
@@ -58,21 +58,32 @@ unfolding pointer_read refusal_of
 refusal (Answer.Refused n) r q = ap (λ (k : ℕ). Answer.Refused k) (ap refusal_of q)
 refusal (Answer.Value e) r q = absurd (differ (ap tag q))
 
-module _ (p : List ℕ) (i : ℕ) (a : EntryRead) (ea : entry_answer a ≡ pointer_read (read_entry p i)) where
-  refused : (r : Refusal) → a ≡ Refused r → Answer.Refused (refusal_number r) ≡ read_entry p i
+module _ (p : List ℕ) (i : ℕ) (a : Result ℕ Refusal) (ea : entry_answer a ≡ pointer_read (read_entry p i)) where
+  refused : (r : Refusal) → a ≡ Err r → Answer.Refused (refusal_number r) ≡ read_entry p i
   refused r q = refusal (read_entry p i) (refusal_number r) (sym (ap entry_answer q) ∙ ea)
 
-  read : (x : ℕ) → a ≡ Pointer x → (was bytes : List ℕ) (k : Key) → bytes ≡ afterwards (read_entry p i) key_bytes was
+  -- what `?` hands on
+  handed : (r : Refusal) → a ≡ Err r → (b : Result (Key × ℕ) Refusal) → IsErr b → IsErrAnd b (λ (y : Refusal). y ≡ r)
+      → seen_answer b ≡ read_entry p i
+  handed r q b u v = ap seen_answer (err_handed b r u v) ∙ refused r q
+
+  read : (x : ℕ) → a ≡ Ok x → (was bytes : List ℕ) (k : Key) → bytes ≡ afterwards (read_entry p i) key_bytes was
       → key_bits k ≡ bits_of bytes → Answer.Value (record { key = key_bits k; pointer = x }) ≡ read_entry p i
   unfolding read_entry
   read x q was bytes k eb ek =
       value (entry_of p i) (key_of-key p i) (first (page_tests p ++ refuse 16 (leb (count p) i) ∷ [])) x was bytes k
       (sym (ap entry_answer q) ∙ ea) eb ek
 
-ruleset laws = (refused, read)
+pub returns-in_err-pointer : goal.returns-in_err-pointer
+returns-in_err-pointer c =
+    record {
+      answer =
+          handed _ _ _ c.entry.ensures.answer _ c.in_err-pointer.was _ c.from_residual.ensures.0 c.from_residual.ensures.1;
+    }
 
-pub returns-in-Refused : goal.returns-in-Refused
-returns-in-Refused c = search (rules, laws)
-
-pub returns-in-Pointer : goal.returns-in-Pointer
-returns-in-Pointer c = search (rules, laws)
+pub returns : goal.returns
+returns c =
+    record {
+      answer =
+          read _ _ _ c.entry.ensures.answer _ c.in_ok-pointer.was _ _ _ c.entry.ensures.written c.from_bytes.ensures.answer;
+    }
