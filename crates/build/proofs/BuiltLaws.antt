@@ -23,6 +23,7 @@ use Rattle.facts.proofs.BuildLaws.{build-none, build_refuses, build_tests_later,
 use Rattle.facts.proofs.PageLaws.{entries_at}
 use Rattle.shape.specs.declared.Header.{Header}
 use Rattle.rows.specs.Rows.{row_key, row_source, rows}
+use Rattle.rows.specs.declared.table.Row.{Row}
 use Rattle.rows.proofs.RowsLaws.{length-rows}
 use Rattle.builder.specs.Over.{page_over, usable}
 use Rattle.builder.specs.Writes.{Wrote}
@@ -65,7 +66,7 @@ module _ (base rec : List ℕ) (number : ℕ) (page undo : List ℕ) where
 
   -- ---- by what comes later
 
-  module _ (h : Header) (old : List ℕ) (b : Held base h old) where
+  module _ (h : Header) (old : List Row) (b : Held base h old) where
     later_split : later_tests (entries base) rec page undo
         ≡ refuse 9 (not (eqb (length page) 4096)) ∷ change_tests (entries base) rec (length undo)
     unfolding change_tests
@@ -98,7 +99,7 @@ module _ (base rec : List ℕ) (number : ℕ) (page undo : List ℕ) where
 
       -- ---- accepted
 
-      module _ (v : CodeNumbers) (new scratch : List ℕ)
+      module _ (v : CodeNumbers) (new : List Row) (scratch : List ℕ)
           (p : Planned (rows h.n old) rec (length undo) v new scratch) where
         pub left_accepted : (page' undo' : List ℕ) → page' ≡ normal_page number (rows v.n new)
             → undo' ≡ take v.undo scratch ++ drop v.undo undo
@@ -162,7 +163,7 @@ module _ (base rec : List ℕ) (number : ℕ) (page undo : List ℕ) where
 
 -- ---- what is written
 
-module _ (base : List ℕ) (h : Header) (v : CodeNumbers) (new page scratch undo : List ℕ)
+module _ (base : List ℕ) (h : Header) (v : CodeNumbers) (new : List Row) (page scratch undo : List ℕ)
     (y : Ready base h v new page scratch undo) (number : ℕ) (r : Bool) (page' : List ℕ) where
   unhelped : h.m ≡ 0
       → Wrote page new v.n v.m v.q (page_over number base h.n h.m h.q new v.n v.m v.q) r page'

@@ -17,13 +17,14 @@ use Rattle.format.specs.Refusals.{refusal_number}
 use Rattle.facts.proofs.AcceptedLaws.{accepted-page_refusal, entries-ascending}
 use Rattle.facts.proofs.PageLaws.{entries_sound}
 use Rattle.shape.specs.declared.Header.{Header}
-use Rattle.shape.specs.declared.Checked.{Checked}
-use Rattle.shape.specs.declared.Checked.TheVariants.{Page, Refused}
+use Rattle.std.specs.Prelude.{Result, Ok, Err}
+use Rattle.format.specs.declared.refusal.Refusal.{Refusal}
 use Rattle.shape.specs.Shape.{SizesFit, checked_answer, header_meant}
 use Rattle.node.specs.Reader.{loaded}
 use Rattle.shape.proofs.CheckedLaws.{checked_accepted, checked_fits, checked_refused}
 use Rattle.node.proofs.LoadedLaws.{length-loaded, loaded-rows}
 use Rattle.rows.specs.Rows.{rows}
+use Rattle.rows.specs.declared.table.Row.{Row}
 use Rattle.build.specs.Built.{BaseKnown, Held}
 
 -- ---- no base
@@ -32,7 +33,7 @@ entries_none : entries [] ≡ []
 unfolding entries
 entries_none = refl
 
-rows_none : (t : List ℕ) → rows 0 t ≡ []
+rows_none : (t : List Row) → rows 0 t ≡ []
 unfolding rows
 rows_none t = refl
 
@@ -44,7 +45,7 @@ sound_none : Sound []
 unfolding Sound
 sound_none = tt
 
-held_nil : (t : List ℕ) → length t ≡ 4092
+held_nil : (t : List Row) → length t ≡ 682
     → Held [] (record { number = 0; n = 0; m = 0; q = 0; bits = 0 }) t
 held_nil t l = record {
   given = inl refl;
@@ -57,7 +58,7 @@ held_nil t l = record {
 }
 
 -- there is no base
-pub no_base : (base t : List ℕ) → length base ≡ 0 → length t ≡ 4092
+pub no_base : (base : List ℕ) (t : List Row) → length base ≡ 0 → length t ≡ 682
     → Held base (record { number = 0; n = 0; m = 0; q = 0; bits = 0 }) t
 no_base [] t e l = held_nil t l
 no_base (x ∷ xs) t e l = absurd (omega arith)
@@ -69,7 +70,7 @@ unfolding base_tests page_refusal
 first_base [] r h e = absurd (not-suc-le-zero h)
 first_base (x ∷ xs) r h e = e
 
-held_page : (base t u : List ℕ) (h : Header) → AllBelow 256 base → length t ≡ 4092
+held_page : (base : List ℕ) (t u : List Row) (h : Header) → AllBelow 256 base → length t ≡ 682
     → Answer.Value (header_meant h) ≡ check_page base
     → u ≡ loaded base t
     → Held base h u
@@ -87,11 +88,11 @@ held_page base t u h b l e eu =
     }
 
 -- what a loaded base tells
-pub base_known : (base t u : List ℕ) (r : Checked) → 1 ≤ length base → AllBelow 256 base → length t ≡ 4092
+pub base_known : (base : List ℕ) (t u : List Row) (r : Result Header Refusal) → 1 ≤ length base → AllBelow 256 base → length t ≡ 682
     → checked_answer r ≡ check_page base
     → u ≡ loaded base t
     → BaseKnown base r u
-base_known base t u (Page h) one b l e eu = held_page base t u h b l e eu
-base_known base t u (Refused r) one b l e eu =
+base_known base t u (Ok h) one b l e eu = held_page base t u h b l e eu
+base_known base t u (Err r) one b l e eu =
     let k : (page_refusal base ≡ refusal_number r) × (0 < refusal_number r) = checked_refused base (refusal_number r) e in
     (first_base base (refusal_number r) one k.0, k.1)

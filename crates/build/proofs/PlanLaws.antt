@@ -23,6 +23,7 @@ use Rattle.facts.proofs.EditLaws.{length-apply, sound_apply}
 use Rattle.facts.proofs.EntryLaws.{Ascending, length-keys}
 use Rattle.facts.proofs.UndoLaws.{AllWellFormed-undo_edits, length-undo_edits, length-undo_record, undo_record_edits}
 use Rattle.rows.specs.Rows.{rows}
+use Rattle.rows.specs.declared.table.Row.{Row}
 use Rattle.rows.proofs.RowsLaws.{length-rows}
 use Rattle.edits.specs.Record.{read_tests}
 use Rattle.apply.specs.Apply.{new_count, new_table, record_tests}
@@ -113,7 +114,7 @@ chosen_of_few ks c e =
 
 -- ---- over ascending rows, with a record that none of 10 to 13 refuses
 
-module _ (n : ℕ) (old rec new₀ : List ℕ) (o : Old n old) (size : length new₀ ≡ 4092) (k : ℕ)
+module _ (n : ℕ) (old : List Row) (rec : List ℕ) (new₀ : List Row) (o : Old n old) (size : length new₀ ≡ 682) (k : ℕ)
     (e : Answer.Value k ≡ new_count (rows n old) rec) (room : ℕ) where
   abbrev base : List Entry
   base = rows n old
@@ -124,7 +125,7 @@ module _ (n : ℕ) (old rec new₀ : List ℕ) (o : Old n old) (size : length ne
   abbrev now : List Entry
   now = apply base es
 
-  abbrev new : List ℕ
+  abbrev new : List Row
   new = new_table base rec new₀
 
   told : NewRows n old rec new₀ new k

@@ -15,6 +15,7 @@ use Rattle.format.specs.Page.{Entry, each}
 use Rattle.facts.proofs.EditLaws.{any_outside_head, any_outside_tail, outside-keep}
 use Rattle.facts.proofs.EntryLaws.{get_or-each, length-each}
 use Rattle.rows.specs.Rows.{row_entry, row_key, row_source, rows}
+use Rattle.rows.specs.declared.table.Row.{Row}
 use Rattle.rows.proofs.RowsLaws.{length-rows, rows_at}
 use Rattle.apply.specs.Apply.{sources, sources_of, up_from}
 use Rattle.apply.proofs.ApplyLaws.{length-sources_of}
@@ -71,7 +72,7 @@ module _ (b : List Entry) where
   sourced_at (x ∷ xs) (r ∷ ss) (suc i) h l k s = sourced_at xs ss i h.1 (omega arith) (omega arith) s
 
   -- of rows that hold the new entries and their sources
-  pub sourced_rows : (es : List Edit) (t : List ℕ) (n : ℕ) → length b ≤ 1023 → any_outside (length b) es ≡ false
+  pub sourced_rows : (es : List Edit) (t : List Row) (n : ℕ) → length b ≤ 1023 → any_outside (length b) es ≡ false
       → rows n t ≡ apply b es
       → each n (row_source t) ≡ sources es
       → (i : ℕ) → i < n → row_source t i < length b

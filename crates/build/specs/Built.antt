@@ -2,37 +2,34 @@
 -- 15. What a build means: `build` of format's specs/Build.antt.
 -- In order: numbers_meant built_answer · Held BaseKnown Old · change_tests Planned Planning · Ready.
 -- Assumes nothing.
-use Rattle.std.specs.Prelude.{true, List, [], ◌∷◌, ◌⊎◌, ◌≡◌, ℕ, ◌≤◌, ◌<◌, length, get_or, take}
+use Rattle.std.specs.Prelude.{true, List, [], ◌∷◌, ◌⊎◌, ◌≡◌, ℕ, ◌≤◌, ◌<◌, length, get_or, take, Result, Ok, Err}
 use Rattle.format.specs.Answer.{Answer, NoneHolds, Test, first, refuse}
 use Rattle.format.specs.Build.{Numbers, base_tests, edit_tests, edits_of, malformed}
 use Rattle.format.specs.Edit.{apply, ascending, no_entry, read_record}
 use Rattle.format.specs.Normal.{choice, fits, keys}
 use Rattle.format.specs.Page.{Entry, Sound, compressed, count, entries, page_refusal, prefix_length}
-use Rattle.format.specs.Refusals.{refusal_number}
+use Rattle.format.specs.Refusals.{answer_of, refusal_number}
+use Rattle.format.specs.declared.refusal.Refusal.{Refusal}
 use Rattle.format.specs.Undo.{undo_record}
 use Rattle.shape.specs.declared.Header.{Header}
-use Rattle.shape.specs.declared.Checked.{Checked}
-use Rattle.shape.specs.declared.Checked.TheVariants.{Page as Base, Refused as NoBase}
 use Rattle.rows.specs.Rows.{row_key, row_source, rows}
+use Rattle.rows.specs.declared.table.Row.{Row}
 use Rattle.builder.specs.Over.{Based}
 use Rattle.build.specs.declared.Numbers.{Numbers as CodeNumbers}
-use Rattle.build.specs.declared.Built.{Built}
-use Rattle.build.specs.declared.Built.TheVariants.{Page, Refused}
 
 -- The numbers that the code's stand for.
 abbrev pub numbers_meant : CodeNumbers → Numbers
 numbers_meant v = record { n = v.n; m = v.m; q = v.q; bits = v.bits; undo = v.undo }
 
 -- What a build answers: the numbers, or the number of the refusal.
-abbrev pub built_answer : Built → Answer Numbers
-built_answer (Page v) = Answer.Value (numbers_meant v)
-built_answer (Refused r) = Answer.Refused (refusal_number r)
+abbrev pub built_answer : Result CodeNumbers Refusal → Answer Numbers
+built_answer r = answer_of numbers_meant r
 
 -- The base is none, or accepted; h has the numbers of its header, zeros where there is none; its entries stand in the
 -- first rows of the table t, each with its position.
-pub record Held (base : List ℕ) (h : Header) (t : List ℕ) : Type 0 where
+pub record Held (base : List ℕ) (h : Header) (t : List Row) : Type 0 where
   pub given : (base ≡ []) ⊎ (page_refusal base ≡ 0)
-  pub size : length t ≡ 4092
+  pub size : length t ≡ 682
   pub few : h.n ≤ 681
   pub held : rows h.n t ≡ entries base
   pub sound : Sound (entries base)
@@ -41,12 +38,12 @@ pub record Held (base : List ℕ) (h : Header) (t : List ℕ) : Type 0 where
       → (page_refusal base ≡ 0) × (h.n ≡ count base) × (h.m ≡ compressed base) × (h.q ≡ prefix_length base)
 
 -- What loading a base tells: that, or the first of 1 to 8 that holds.
-abbrev pub BaseKnown : List ℕ → Checked → List ℕ → Type 0
-BaseKnown base (Base h) t = Held base h t
-BaseKnown base (NoBase r) t = (first (base_tests base) ≡ refusal_number r) × (1 ≤ refusal_number r)
+abbrev pub BaseKnown : List ℕ → Result Header Refusal → List Row → Type 0
+BaseKnown base (Ok h) t = Held base h t
+BaseKnown base (Err r) t = (first (base_tests base) ≡ refusal_number r) × (1 ≤ refusal_number r)
 
 -- The first n rows of a table hold ascending entries, no more than a page has.
-pub record Old (n : ℕ) (t : List ℕ) : Type 0 where
+pub record Old (n : ℕ) (t : List Row) : Type 0 where
   pub few : n ≤ 681
   pub sound : Sound (rows n t)
   pub rising : ascending (rows n t) ≡ true
@@ -58,7 +55,8 @@ change_tests base rec room = refuse 10 (malformed (read_record rec)) ∷ edit_te
 
 -- None of them holds; v has the numbers of the new page, the new rows are the new entries, each that comes from the
 -- base with its key there, and scratch begins with the undo record.
-pub record Planned (base : List Entry) (rec : List ℕ) (room : ℕ) (v : CodeNumbers) (new scratch : List ℕ) : Type 0 where
+pub record Planned (base : List Entry) (rec : List ℕ) (room : ℕ) (v : CodeNumbers) (new : List Row)
+    (scratch : List ℕ) : Type 0 where
   pub none : NoneHolds (change_tests base rec room)
   pub made : rows v.n new ≡ apply base (edits_of (read_record rec))
   pub numbers : numbers_meant v ≡ record {
@@ -77,14 +75,15 @@ pub record Planned (base : List Entry) (rec : List ℕ) (room : ℕ) (v : CodeNu
       → row_key new i ≡ (get_or base (row_source new i) no_entry).key
 
 -- What planning tells: that, or the first of 10 to 15 that holds.
-abbrev pub Planning : List Entry → List ℕ → ℕ → Built → List ℕ → List ℕ → Type 0
-Planning base rec room (Page v) new scratch = Planned base rec room v new scratch
-Planning base rec room (Refused r) new scratch =
+abbrev pub Planning : List Entry → List ℕ → ℕ → Result CodeNumbers Refusal → List Row → List ℕ → Type 0
+Planning base rec room (Ok v) new scratch = Planned base rec room v new scratch
+Planning base rec room (Err r) new scratch =
     (first (change_tests base rec room) ≡ refusal_number r) × (1 ≤ refusal_number r)
 
 -- What is known where page and undo buffer are to be written: the new rows fit a page under v's choice, those that come
 -- from the base's compressed entries have their keys, and the undo record has room.
-pub record Ready (base : List ℕ) (h : Header) (v : CodeNumbers) (new page scratch undo : List ℕ) : Type 0 where
+pub record Ready (base : List ℕ) (h : Header) (v : CodeNumbers) (new : List Row)
+    (page scratch undo : List ℕ) : Type 0 where
   pub page_size : length page ≡ 4096
   pub entry : 1 ≤ v.n
   pub fitting : fits (rows v.n new) ≡ true

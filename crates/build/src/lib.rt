@@ -10,17 +10,16 @@ ghost use Rattle.format.specs.Build.{build};
 ghost use Rattle.rows.specs.Rows.{rows};
 ghost use Rattle.build.specs.Built.{built_answer, BaseKnown, Old, Planning, Ready};
 
-use apply::Edited;
 use branch_ops::choice;
-use branch_ops::choice::Chosen;
 use builder::page;
 use builder::page::BranchNodeBuilder;
 use format::refusal::Refusal;
 use node::reader;
-use shape::{Checked, Header};
+use rows::table::Row;
+use shape::Header;
 
 // What an accepted build answers: n, m, q and bits of the new page, and the undo record's length.
-#[derive(Clone, Copy)]
+#[derive(Clone, Copy, Debug, PartialEq, Eq)]
 pub struct Numbers {
     pub n: usize,
     pub m: usize,
@@ -29,21 +28,14 @@ pub struct Numbers {
     pub undo: usize,
 }
 
-// What a build answers: the new page's numbers, or one of 1 to 15.
-#[derive(Clone, Copy)]
-pub enum Built {
-    Page(Numbers),
-    Refused(Refusal),
-}
-
 // Refusals 1 to 8, or the base's header, and its entries in the rows of t; zeros and no rows where
 // there is no base.
-fn load_base(base: &[u8], t: &mut [u64]) -> Checked
-    requires { length t.old ≡ 4092 }
+fn load_base(base: &[u8], t: &mut [Row]) -> Result<Header, Refusal>
+    requires { length t.old ≡ 682 }
     ensures known { BaseKnown base.now result t.new }
 {
-    if base.len() == 0 {
-        return Checked::Page(Header {
+    if base.is_empty() {
+        return Ok(Header {
             number: 0,
             n: 0,
             m: 0,
@@ -57,43 +49,37 @@ fn load_base(base: &[u8], t: &mut [u64]) -> Checked
 // Refusals 10 to 15 of a record over the first n old rows, where the undo buffer has `room` bytes;
 // or the new page's numbers, the new rows, and the undo record at the front of scratch.
 fn plan(
-    old: &[u64],
+    old: &[Row],
     n: usize,
     rec: &[u8],
     room: usize,
-    new: &mut [u64],
+    new: &mut [Row],
     scratch: &mut [u8],
-) -> Built
-    requires { Old n old.now × (length new.old ≡ 4092) × (length scratch.old ≡ 24704) }
+) -> Result<Numbers, Refusal>
+    requires { Old n old.now × (length new.old ≡ 682) × (length scratch.old ≡ 24704) }
     ensures known { Planning (rows n old.now) rec.now room result
         new.new scratch.new }
 {
-    match apply::edit_rows(rec, old, n, new) {
-        Edited::Refused(r) => Built::Refused(r),
-        Edited::Entries(k) => match choice::choose(new, k) {
-            Chosen::Refused(r) => Built::Refused(r),
-            Chosen::Taken(c) => {
-                let len = undo::write_undo(old, n, new, k, scratch);
-                if room < len {
-                    return Built::Refused(Refusal::UndoTooShort);
-                }
-                Built::Page(Numbers {
-                    n: k,
-                    m: c.m,
-                    q: c.q,
-                    bits: c.bits,
-                    undo: len,
-                })
-            }
-        },
+    let k = apply::edit_rows(rec, old, n, new)?;
+    let c = choice::choose(new, k)?;
+    let len = undo::write_undo(old, n, new, k, scratch);
+    if room < len {
+        return Err(Refusal::UndoTooShort);
     }
+    Ok(Numbers {
+        n: k,
+        m: c.m,
+        q: c.q,
+        bits: c.bits,
+        undo: len,
+    })
 }
 
 // Writes the page of the new rows, with the base's help, and the undo record from scratch.
 fn finish(
     base: &[u8],
     h: Header,
-    new: &[u64],
+    new: &[Row],
     v: Numbers,
     number: u32,
     page: &mut [u8],
@@ -115,7 +101,13 @@ fn finish(
 // of a record. Accepted, the page is the normal page of the new entries, and the undo buffer begins
 // with the undo record; its bytes behind that are as they were. Refused, with the first of 1 to 15
 // that holds, page and undo buffer are as they were.
-pub fn build(base: &[u8], rec: &[u8], number: u32, page: &mut [u8], undo: &mut [u8]) -> Built
+pub fn build(
+    base: &[u8],
+    rec: &[u8],
+    number: u32,
+    page: &mut [u8],
+    undo: &mut [u8],
+) -> Result<Numbers, Refusal>
     ensures answer { built_answer result
         ≡ (build base.now rec.now number page.old
         undo.old).answer }
@@ -126,22 +118,14 @@ pub fn build(base: &[u8], rec: &[u8], number: u32, page: &mut [u8], undo: &mut [
         ≡ (build base.now rec.now number page.old
         undo.old).undo }
 {
-    let mut old = [0u64; 4092];
-    match load_base(base, &mut old) {
-        Checked::Refused(r) => Built::Refused(r),
-        Checked::Page(h) => {
-            if page.len() != BranchNodeBuilder::PAGE_SIZE {
-                return Built::Refused(Refusal::OutputLength);
-            }
-            let mut new = [0u64; 4092];
-            let mut scratch = [0u8; 24704];
-            match plan(&old, h.n, rec, undo.len(), &mut new, &mut scratch) {
-                Built::Refused(r) => Built::Refused(r),
-                Built::Page(v) => {
-                    finish(base, h, &new, v, number, page, &scratch, undo);
-                    Built::Page(v)
-                }
-            }
-        }
+    let mut old = [Row::default(); 682];
+    let h = load_base(base, &mut old)?;
+    if page.len() != BranchNodeBuilder::PAGE_SIZE {
+        return Err(Refusal::OutputLength);
     }
+    let mut new = [Row::default(); 682];
+    let mut scratch = [0u8; 24704];
+    let v = plan(&old, h.n, rec, undo.len(), &mut new, &mut scratch)?;
+    finish(base, h, &new, v, number, page, &scratch, undo);
+    Ok(v)
 }

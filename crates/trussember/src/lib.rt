@@ -16,89 +16,42 @@ ghost use Rattle.format.specs.Ranges.{bit_copy, rebuild_key, separate};
 ghost use Rattle.format.specs.Refusals.{outcome_number};
 ghost use Rattle.format.specs.Sizes.{body_size, stored_from_whole, whole_from_stored};
 ghost use Rattle.node.specs.Reader.{key_bytes, pointer_read};
-ghost use Rattle.sizes.specs.Sizes.{size_answer};
 ghost use Rattle.trussember.specs.Told.{built_told, checked_told, entry_told, size_told};
 
 use crate::answers::{Built, Checked, EntryRead, Size};
-use format::refusal::Outcome;
+use format::refusal::Refusal;
 use node::reader;
 
 // The number of an outcome, 0 for what is done.
-fn number(o: Outcome) -> u64
+fn number(o: Result<(), Refusal>) -> u64
     ensures answer { result ≡ outcome_number o }
 {
     match o {
-        Outcome::Done => 0,
-        Outcome::Refused(why) => refusals::number(why),
-    }
-}
-
-// A size as C gets it.
-#[tactic(auto, unfolding(crate::specs::Told::size_told))]
-fn told(s: sizes::Size) -> Size
-    ensures answer { result ≡ size_told (size_answer s) }
-{
-    match s {
-        sizes::Size::Is(value) => Size {
-            refusal: 0,
-            value: value as u64,
-        },
-        sizes::Size::Refused(why) => Size {
-            refusal: refusals::number(why),
-            value: 0,
-        },
+        Ok(()) => 0,
+        Err(why) => why.into(),
     }
 }
 
 // Checks a page: its header, or the first of 1 to 8 that holds.
-#[tactic(auto, unfolding(crate::specs::Told::checked_told))]
 #[unsafe(no_mangle)]
 pub extern "C" fn trussember_check(page: &[u8]) -> Checked
     ensures answer { result ≡ checked_told (check_page page.now) }
 {
-    match reader::check(page) {
-        shape::Checked::Page(h) => Checked {
-            refusal: 0,
-            number: h.number,
-            n: h.n as u64,
-            m: h.m as u64,
-            q: h.q as u64,
-            bits: h.bits as u64,
-        },
-        shape::Checked::Refused(why) => Checked {
-            refusal: refusals::number(why),
-            number: 0,
-            n: 0,
-            m: 0,
-            q: 0,
-            bits: 0,
-        },
-    }
+    reader::check(page).into()
 }
 
 // Entry `index` of a page: its pointer, and its key into `key`. Refused with 1 to 8, then with 16.
-#[tactic(auto, unfolding(crate::specs::Told::entry_told))]
 #[unsafe(no_mangle)]
 pub extern "C" fn trussember_entry(page: &[u8], index: usize, key: &mut [u8; 32]) -> EntryRead
     ensures answer { result ≡ entry_told (pointer_read (read_entry page.now index)) }
     ensures written { key.new
         ≡ afterwards (read_entry page.now index) key_bytes key.old }
 {
-    match reader::entry(page, index, key) {
-        reader::EntryRead::Pointer(pointer) => EntryRead {
-            refusal: 0,
-            pointer,
-        },
-        reader::EntryRead::Refused(why) => EntryRead {
-            refusal: refusals::number(why),
-            pointer: 0,
-        },
-    }
+    reader::entry(page, index, key).into()
 }
 
 // Builds a page from a base and an edit record, and the record that undoes it: n, m, q and bits of
 // the page, and the undo record's length. A base of length 0 means no base. Refused with 1 to 15.
-#[tactic(auto, unfolding(crate::specs::Told::built_told))]
 #[unsafe(no_mangle)]
 pub extern "C" fn trussember_build(
     base: &[u8],
@@ -117,24 +70,7 @@ pub extern "C" fn trussember_build(
         ≡ (build base.now «record».now number page.old
         undo.old).undo }
 {
-    match build::build(base, record, number, page, undo) {
-        build::Built::Page(made) => Built {
-            refusal: 0,
-            n: made.n as u64,
-            m: made.m as u64,
-            q: made.q as u64,
-            bits: made.bits as u64,
-            undo: made.undo as u64,
-        },
-        build::Built::Refused(why) => Built {
-            refusal: refusals::number(why),
-            n: 0,
-            m: 0,
-            q: 0,
-            bits: 0,
-            undo: 0,
-        },
-    }
+    build::build(base, record, number, page, undo).into()
 }
 
 // Bit copy: the `bits` bits of dst from `dst_bit` on become those of src from `src_bit` on, and no
@@ -210,7 +146,7 @@ pub extern "C" fn trussember_reconstruct_key(
 pub extern "C" fn trussember_body_size(q: u64, sum: u64, n: u64) -> Size
     ensures answer { result ≡ size_told (body_size q sum n) }
 {
-    told(sizes::body_size(q as usize, sum as usize, n as usize))
+    sizes::body_size(q as usize, sum as usize, n as usize).into()
 }
 
 // Whole lengths from the stored ones of n entries. Refused with 19.
@@ -223,12 +159,13 @@ pub extern "C" fn trussember_uncompressed_separator_range_size(
 ) -> Size
     ensures answer { result ≡ size_told (whole_from_stored q sum n first) }
 {
-    told(sizes::uncompressed_separator_range_size(
+    sizes::uncompressed_separator_range_size(
         q as usize,
         sum as usize,
         n as usize,
         first as usize,
-    ))
+    )
+    .into()
 }
 
 // Stored lengths from whole ones, m of them compressed. Refused with 19.
@@ -241,10 +178,11 @@ pub extern "C" fn trussember_compressed_separator_range_size(
 ) -> Size
     ensures answer { result ≡ size_told (stored_from_whole first m others q) }
 {
-    told(sizes::compressed_separator_range_size(
+    sizes::compressed_separator_range_size(
         first as usize,
         m as usize,
         others as usize,
         q as usize,
-    ))
+    )
+    .into()
 }
