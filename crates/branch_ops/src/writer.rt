@@ -97,7 +97,10 @@ impl RecordWriter {
     {
         let size = numbers::bytes_for(self.bit, 0);
         let room = d.len().min(layout::LONGEST_RECORD);
-        if room < 2 || room < size {
+        if room < 2 {
+            return size;
+        }
+        if room < size {
             return size;
         }
         bits::put_number(d, self.bit, 8 * size - self.bit, 0);

@@ -112,8 +112,8 @@ pub returns-in_err-h : goal.returns-in_err-h
 returns-in_err-h c =
     record {
       answer =
-      base_answer _ _ _ _ _ _ _ c.load_base.ensures.known _ c.in_err-h.was _ c.from_residual.ensures.0
-      c.from_residual.ensures.1;
+          base_answer _ _ _ _ _ _ _ c.load_base.ensures.known _ c.in_err-h.was _ c.from_residual.ensures.0
+          c.from_residual.ensures.1;
       page = base_page _ _ _ _ _ _ _ c.load_base.ensures.known _ c.in_err-h.was;
       undo = base_undo _ _ _ _ _ _ _ c.load_base.ensures.known _ c.in_err-h.was;
     }
@@ -125,26 +125,26 @@ pub returns-in_err-v : goal.returns-in_err-v
 returns-in_err-v c =
     record {
       answer =
-      plan_answer _ _ _ _ _ _ _ c.load_base.ensures.known _ c.in_ok-h.was (search rules) _ _ _ c.plan.ensures.known _
-      c.in_err-v.was _ c.from_residual.ensures.0 c.from_residual.ensures.1;
+          plan_answer _ _ _ _ _ _ _ c.load_base.ensures.known _ c.in_ok-h.was (search rules) _ _ _ c.plan.ensures.known _
+          c.in_err-v.was _ c.from_residual-in_err-v.ensures.0 c.from_residual-in_err-v.ensures.1;
       page =
-      plan-page _ _ _ _ _ _ _ c.load_base.ensures.known _ c.in_ok-h.was (search rules) _ _ _ c.plan.ensures.known _
-      c.in_err-v.was;
+          plan-page _ _ _ _ _ _ _ c.load_base.ensures.known _ c.in_ok-h.was (search rules) _ _ _ c.plan.ensures.known _
+          c.in_err-v.was;
       undo =
-      plan_undo _ _ _ _ _ _ _ c.load_base.ensures.known _ c.in_ok-h.was (search rules) _ _ _ c.plan.ensures.known _
-      c.in_err-v.was;
+          plan_undo _ _ _ _ _ _ _ c.load_base.ensures.known _ c.in_ok-h.was (search rules) _ _ _ c.plan.ensures.known _
+          c.in_err-v.was;
     }
 
 pub returns : goal.returns
 returns c =
     record {
       answer =
-      done_answer _ _ _ _ _ _ _ c.load_base.ensures.known _ c.in_ok-h.was (search rules) _ _ _ c.plan.ensures.known _
-      c.in_ok-v.was _ _ c.finish.ensures.page c.finish.ensures.undo;
+          done_answer _ _ _ _ _ _ _ c.load_base.ensures.known _ c.in_ok-h.was (search rules) _ _ _ c.plan.ensures.known _
+          c.in_ok-v.was _ _ c.finish.ensures.page c.finish.ensures.undo;
       page =
-      done_page _ _ _ _ _ _ _ c.load_base.ensures.known _ c.in_ok-h.was (search rules) _ _ _ c.plan.ensures.known _
-      c.in_ok-v.was _ _ c.finish.ensures.page c.finish.ensures.undo;
+          done_page _ _ _ _ _ _ _ c.load_base.ensures.known _ c.in_ok-h.was (search rules) _ _ _ c.plan.ensures.known _
+          c.in_ok-v.was _ _ c.finish.ensures.page c.finish.ensures.undo;
       undo =
-      done_undo _ _ _ _ _ _ _ c.load_base.ensures.known _ c.in_ok-h.was (search rules) _ _ _ c.plan.ensures.known _
-      c.in_ok-v.was _ _ c.finish.ensures.page c.finish.ensures.undo;
+          done_undo _ _ _ _ _ _ _ c.load_base.ensures.known _ c.in_ok-h.was (search rules) _ _ _ c.plan.ensures.known _
+          c.in_ok-v.was _ _ c.finish.ensures.page c.finish.ensures.undo;
     }

@@ -3,6 +3,7 @@ use Rattle.build.proofs.plan.Goals as goal
 use mathlib.Core.List.{List}
 use mathlib.Core.Path.{◌≡◌, sym, ap, subst, ◌∙◌}
 use Prim.Native.Nat.{ℕ, ◌≤◌, ◌<◌}
+use native.Mathlib.Omega.{arith}
 use lib.ListN.{length}
 use Rattle.format.specs.Answer.{Answer, first}
 use Rattle.format.specs.Normal.{keys}
@@ -79,27 +80,39 @@ handed : (base : List Entry) (rec : List ℕ) (room : ℕ) (r : Refusal) (v : Re
 handed base rec room r v new scratch a b f =
     subst (λ (w : Result Numbers Refusal). Planning base rec room w new scratch) (sym (err_handed v r a b)) f
 
-ruleset laws = (no_room, done)
-
 pub returns-in_err-k : goal.returns-in_err-k
 returns-in_err-k c =
     record {
       known =
-      handed _ _ _ _ _ _ _ c.from_residual.ensures.0 c.from_residual.ensures.1
-      (early_both _ _ _ _ _ c.edit_rows.ensures.answer _ c.in_err-k.was);
+          handed _ _ _ _ _ _ _ c.from_residual.ensures.0 c.from_residual.ensures.1
+          (early_both _ _ _ _ _ c.edit_rows.ensures.answer _ c.in_err-k.was);
     }
 
 pub returns-in_err-c : goal.returns-in_err-c
 returns-in_err-c c =
     record {
       known =
-      handed _ _ _ _ _ _ _ c.from_residual.ensures.0 c.from_residual.ensures.1
-      (no_choice_both _ _ _ _ _ c.edit_rows.ensures.answer _ c.in_ok-k.was _ _ c.edit_rows.ensures.written
-      (search rules) (search rules) _ c.choose.ensures.answer _ c.in_err-c.was);
+          handed _ _ _ _ _ _ _ c.from_residual-in_err-c.ensures.0 c.from_residual-in_err-c.ensures.1
+          (no_choice_both _ _ _ _ _ c.edit_rows.ensures.answer _ c.in_ok-k.was _ _ c.edit_rows.ensures.written
+          (search rules) (search rules) _ c.choose.ensures.answer _ c.in_err-c.was);
     }
 
 pub returns-then-room-len : goal.returns-then-room-len
-returns-then-room-len c = search (rules, laws)
+returns-then-room-len c =
+    record {
+      known = (
+        no_room _ _ _ _ _ c.edit_rows.ensures.answer _ c.in_ok-k.was _ _ c.edit_rows.ensures.written (search rules)
+            (search rules) _ c.choose.ensures.answer _ c.in_ok-c.was _ (search rules) _ c.write_undo-len.ensures.answer
+            c.if-room-len.true,
+        omega arith,
+      );
+    }
 
 pub returns : goal.returns
-returns c = search (rules, laws)
+returns c =
+    record {
+      known =
+          done _ _ _ _ _ c.edit_rows.ensures.answer _ c.in_ok-k.was _ _ c.edit_rows.ensures.written (search rules)
+          (search rules) _ c.choose.ensures.answer _ c.in_ok-c.was _ (search rules) _ c.write_undo-len.ensures.answer _
+          c.write_undo-len.ensures.written (search rules) c.if-room-len.false;
+    }

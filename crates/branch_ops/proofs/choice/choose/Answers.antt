@@ -19,8 +19,8 @@ loop-i-init c = search (rules, laws)
 pub overflow_add-total : goal.overflow_add-total
 overflow_add-total c = search (rules, laws)
 
-pub saved-gain-requires : goal.saved-gain-requires
-saved-gain-requires c = search (rules, laws)
+pub saved-bits-requires : goal.saved-bits-requires
+saved-bits-requires c = search (rules, laws)
 
 pub loop-i-preserved : goal.loop-i-preserved
 loop-i-preserved c = search (rules, laws)

@@ -26,9 +26,6 @@ overflow_sub-result c = search (rules, laws)
 pub overflow_mul-result : goal.overflow_mul-result
 overflow_mul-result c = search (rules, laws)
 
-pub least-requires : goal.least-requires
-least-requires c = search (rules, laws)
-
 pub overflow_add-result : goal.overflow_add-result
 overflow_add-result c = search (rules, laws)
 

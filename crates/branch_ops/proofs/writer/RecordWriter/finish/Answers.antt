@@ -18,9 +18,6 @@ ruleset laws = (short_end, past_end, finish-sub, finish-fits, finish_pad, finish
 pub bytes_for-size-requires : goal.bytes_for-size-requires
 bytes_for-size-requires c = search (rules, laws)
 
-pub least-room-requires : goal.least-room-requires
-least-room-requires c = search (rules, laws)
-
 pub returns-then-room-lt2 : goal.returns-then-room-lt2
 returns-then-room-lt2 c = search (rules, laws)
 

@@ -23,14 +23,11 @@ returns-then-self-ge-MOST_EDITS c = search (rules, laws)
 pub size-size-requires : goal.size-size-requires
 size-size-requires c = search (rules, laws)
 
-pub least-requires : goal.least-requires
-least-requires c = search (rules, laws)
-
 pub bytes_for-requires : goal.bytes_for-requires
 bytes_for-requires c = search (rules, laws)
 
-pub returns-then-least-bytes_for : goal.returns-then-least-bytes_for
-returns-then-least-bytes_for c = search (rules, laws)
+pub returns-then-min-bytes_for : goal.returns-then-min-bytes_for
+returns-then-min-bytes_for c = search (rules, laws)
 
 pub put_edit-requires : goal.put_edit-requires
 put_edit-requires c = search (rules, laws)
