@@ -1,2 +1,0 @@
--- Laws that the proofs of trussember share.
-pub mod ToldLaws
