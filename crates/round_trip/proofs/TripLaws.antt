@@ -26,6 +26,7 @@ use Rattle.node.specs.Reader.{loaded}
 use Rattle.shape.proofs.CheckedLaws.{checked_accepted, checked_fits, checked_refused}
 use Rattle.node.proofs.LoadedLaws.{loaded-rows}
 use Rattle.rows.specs.Rows.{rows}
+use Rattle.rows.specs.declared.table.Row.{Row}
 use Rattle.branch_ops.specs.Choice.{chosen_of}
 use Rattle.branch_ops.proofs.ChoiceLaws.{chosen_of_normal}
 use Rattle.builder.specs.Writes.{Wrote}
@@ -74,7 +75,7 @@ module _ (base : List ℕ) where
       let k : (page_refusal base ≡ r) × (0 < r) = checked_refused base r e in
       sym (rw (ne_eqb (page_refusal base) 0 (λ z. omega (arith, k.0, k.1))))
 
-  module _ (h : Header) (e : Answer.Value (header_meant h) ≡ check_page base) (t₀ t : List ℕ) (size : length t₀ ≡ 4092)
+  module _ (h : Header) (e : Answer.Value (header_meant h) ≡ check_page base) (t₀ t : List Row) (size : length t₀ ≡ 682)
       (et : t ≡ loaded base t₀) where
     ok : page_refusal base ≡ 0
     ok = checked_accepted base (header_meant h) e

@@ -1,15 +1,16 @@
 -- Demand 3 as definitions that compute: document 01, "Demands", 3.
 -- In order: same_bytes · blank_page blank_undo · is_normal · gives brings_again and_again brings_back · trip_answer Agreed.
 -- Assumes nothing.
-use Rattle.std.specs.Prelude.{ℕ, ◌≤◌, Bool, true, false, ◌&&◌, List, [], ◌∷◌, ◌≡◌, eqb, length, replicate, take}
+use Rattle.std.specs.Prelude.{ℕ, ◌≤◌, Bool, true, false, ◌&&◌, List, [], ◌∷◌, ◌≡◌, eqb, length, replicate, take, Result, Ok, Err}
 use Rattle.format.specs.Answer.{Answer}
 use Rattle.format.specs.Build.{Built, Numbers, build}
 use Rattle.format.specs.Normal.{normal_page}
 use Rattle.format.specs.Page.{entries, page_number, page_refusal}
 use Rattle.format.specs.Refusals.{refusal_number}
 use Rattle.build.specs.Built.{numbers_meant}
-use Rattle.round_trip.specs.declared.Trip.{Trip}
-use Rattle.round_trip.specs.declared.Trip.TheVariants.{Agrees, Differs, Refused}
+use Rattle.build.specs.declared.Numbers.{Numbers as CodeNumbers}
+use Rattle.round_trip.specs.declared.TripError.{TripError}
+use Rattle.round_trip.specs.declared.TripError.TheVariants.{Differs, Refused}
 
 -- The bytes are the same.
 unfoldable pub same_bytes : List ℕ → List ℕ → Bool
@@ -58,15 +59,15 @@ brings_back base p rec number =
     and_again base p number b.answer b
 
 -- What a round trip answers: the numbers, or the number of the refusal; 0, which no refusal has, where they differ.
-abbrev pub trip_answer : Trip → Answer Numbers
-trip_answer (Agrees v) = Answer.Value (numbers_meant v)
-trip_answer Differs = Answer.Refused 0
-trip_answer (Refused r) = Answer.Refused (refusal_number r)
+abbrev pub trip_answer : Result CodeNumbers TripError → Answer Numbers
+trip_answer (Ok v) = Answer.Value (numbers_meant v)
+trip_answer (Err Differs) = Answer.Refused 0
+trip_answer (Err (Refused r)) = Answer.Refused (refusal_number r)
 
 -- What a round trip's answer says of lent memory afterwards. That all agree: over a base, the record at the front of
 -- the undo buffer brings the base back, and the undo record of that brings the page again. That they differ is never
 -- said.
-abbrev pub Agreed : List ℕ → List ℕ → List ℕ → ℕ → Trip → Type 0
-Agreed base page undo number (Agrees v) = 1 ≤ length base → brings_back base page (take v.undo undo) number ≡ true
-Agreed base page undo number Differs = ⊥
-Agreed base page undo number (Refused r) = Unit {0}
+abbrev pub Agreed : List ℕ → List ℕ → List ℕ → ℕ → Result CodeNumbers TripError → Type 0
+Agreed base page undo number (Ok v) = 1 ≤ length base → brings_back base page (take v.undo undo) number ≡ true
+Agreed base page undo number (Err Differs) = ⊥
+Agreed base page undo number (Err (Refused r)) = Unit {0}
