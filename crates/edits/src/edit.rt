@@ -4,8 +4,9 @@ ghost use Rattle.format.specs.Edit.{edit_bits};
 ghost use Rattle.edits.specs.Record.{edit_meant};
 
 use keys::Key;
+use std::fmt;
 
-#[derive(Clone, Copy)]
+#[derive(Clone, Copy, Debug, PartialEq, Eq)]
 pub enum Edit {
     // A key and its pointer.
     Insert(Key, u64),
@@ -24,6 +25,17 @@ impl Edit {
             Edit::Insert(_, _) => 290,
             Edit::Update(_, _) => 44,
             Edit::KeepChunk(_, _) => 22,
+        }
+    }
+}
+
+// Its kind and its fields.
+impl fmt::Display for Edit {
+    fn fmt<W: fmt::Write>(&self, f: &mut fmt::Formatter<W>) -> fmt::Result {
+        match self {
+            Edit::Insert(key, pointer) => write!(f, "insert {key} {pointer}"),
+            Edit::Update(place, pointer) => write!(f, "update {place} {pointer}"),
+            Edit::KeepChunk(start, end) => write!(f, "keep {start} {end}"),
         }
     }
 }

@@ -60,7 +60,7 @@ impl Kind {
 }
 
 // The fields in an edit's first 44 bits: kind; position or start; end; pointer of an Update.
-#[derive(Clone, Copy)]
+#[derive(Clone, Copy, Debug, PartialEq, Eq)]
 struct Head {
     kind: Kind,
     place: usize,

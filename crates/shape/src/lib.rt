@@ -19,6 +19,7 @@ ghost use Rattle.shape.specs.Shape.{Shaping, SizesFit, Sizing, check_shape, chec
 
 use format::layout;
 use format::refusal::Refusal;
+use std::fmt;
 
 // What a page's header says, and how many bits prefix and separators have.
 #[derive(Clone, Copy, Debug, PartialEq, Eq)]
@@ -28,6 +29,16 @@ pub struct Header {
     pub m: usize,
     pub q: usize,
     pub bits: usize,
+}
+
+impl fmt::Display for Header {
+    fn fmt<W: fmt::Write>(&self, f: &mut fmt::Formatter<W>) -> fmt::Result {
+        write!(
+            f,
+            "number {}, n {}, m {}, q {}, bits {}",
+            self.number, self.n, self.m, self.q, self.bits
+        )
+    }
 }
 
 // Where separator i ends, in bits from the prefix's end; 0 where the page has no such bytes.
