@@ -1,26 +1,10 @@
-// Plain numbers: differences that do not fall below zero, the lesser of two, the bytes that bits
-// take; and the numbers that bytes of a slice hold, least significant byte first. Each public
-// function is total: bytes past the end read as zeros.
+// Plain numbers: the bytes that bits take, and the numbers that bytes of a slice hold, least
+// significant byte first. Each public function is total: bytes past the end read as zeros.
 // What they mean: `bytes_for` and `unle` of format's specs/Bits.antt.
 #![tactic(auto)]
 
 ghost use Rattle.std.specs.Prelude.{◌≡◌, ◌+◌, ◌-◌, ◌^◌, ◌<◌, ◌≤◌, min, length, take, drop, get_or};
 ghost use Rattle.format.specs.Bits.{bytes_for, unle};
-
-// a - b, or 0 where that is below zero.
-pub fn over(a: usize, b: usize) -> usize
-    ensures answer { result ≡ a - b }
-{
-    a.saturating_sub(b)
-}
-
-// The lesser of two.
-pub fn least(a: usize, b: usize) -> usize
-    ensures answer { result ≡ min a b }
-    ensures bound { (result ≤ a) × (result ≤ b) }
-{
-    a.min(b)
-}
 
 // The bytes of at + len bits; the sum itself need not fit.
 #[tactic(auto, unfolding(format::specs::Bits::bytes_for))]
@@ -28,13 +12,6 @@ pub fn bytes_for(at: usize, len: usize) -> usize
     ensures answer { result ≡ bytes_for (at + len) }
 {
     at / 8 + len / 8 + (at % 8 + len % 8).div_ceil(8)
-}
-
-// A byte as a word.
-pub fn wide(x: u8) -> u64
-    ensures answer { (result ≡ x) × (result < 256) }
-{
-    u64::from(x)
 }
 
 // The byte at i.
