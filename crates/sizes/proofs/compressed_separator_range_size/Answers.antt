@@ -41,9 +41,6 @@ ruleset laws = (no_items, head_fits, no_prefix, less)
 pub returns-in_default : goal.returns-in_default
 returns-in_default c = search (rules, laws)
 
-pub reduced-requires : goal.reduced-requires
-reduced-requires c = search (rules, laws)
-
 pub returns-then-prefix_len-eq0 : goal.returns-then-prefix_len-eq0
 returns-then-prefix_len-eq0 c = search (rules, laws)
 

@@ -73,41 +73,11 @@ module _ (head others times q : ℕ) (z : q ≡ 0 → ⊥) where
 
 ruleset laws = (few_le, few_fits, few, have_fits, many_low, more_fits, more_le, many_is)
 
-pub nonzero_div-whole : goal.nonzero_div-whole
-nonzero_div-whole c = search (rules, laws)
-
-pub overflow_mul-times : goal.overflow_mul-times
-overflow_mul-times c = search (rules, laws)
-
-pub overflow_sub-others : goal.overflow_sub-others
-overflow_sub-others c = search (rules, laws)
-
-pub total-requires : goal.total-requires
-total-requires c = search (rules, laws)
-
 pub returns-then-times-whole : goal.returns-then-times-whole
 returns-then-times-whole c = search (rules, laws)
 
-pub overflow_sub-more : goal.overflow_sub-more
-overflow_sub-more c = search (rules, laws)
-
-pub nonzero_rem-have : goal.nonzero_rem-have
-nonzero_rem-have c = search (rules, laws)
-
-pub overflow_add-have : goal.overflow_add-have
-overflow_add-have c = search (rules, laws)
-
-pub nonzero_div-have : goal.nonzero_div-have
-nonzero_div-have c = search (rules, laws)
-
 pub returns-then-have-q : goal.returns-then-have-q
 returns-then-have-q c = search (rules, laws)
-
-pub overflow_mul-result : goal.overflow_mul-result
-overflow_mul-result c = search (rules, laws)
-
-pub overflow_sub-result : goal.overflow_sub-result
-overflow_sub-result c = search (rules, laws)
 
 pub returns : goal.returns
 returns c = search (rules, laws)
