@@ -71,44 +71,8 @@ module _ (a b : List ℕ) (i j n : ℕ) (la : length a ≡ 32) (lb : length b �
 
 ruleset laws = (SharedTo_start, more, stop, full)
 
-pub bytes-init : goal.bytes-init
-bytes-init c = search (rules, laws)
-
-pub loop-bit-init : goal.loop-bit-init
-loop-bit-init c = search (rules, laws)
-
-pub overflow_sub-mask : goal.overflow_sub-mask
-overflow_sub-mask c = search (rules, laws)
-
-pub overflow_shl-mask : goal.overflow_shl-mask
-overflow_shl-mask c = search (rules, laws)
-
-pub bounds-x-byte : goal.bounds-x-byte
-bounds-x-byte c = search (rules, laws)
-
-pub bounds-y-byte : goal.bounds-y-byte
-bounds-y-byte c = search (rules, laws)
-
-pub overflow_add-n : goal.overflow_add-n
-overflow_add-n c = search (rules, laws)
-
-pub overflow_step-bit : goal.overflow_step-bit
-overflow_step-bit c = search (rules, laws)
-
-pub loop-bit-smaller : goal.loop-bit-smaller
-loop-bit-smaller c = search (rules, laws)
-
 pub loop-bit-preserved : goal.loop-bit-preserved
 loop-bit-preserved c = search (rules, laws)
-
-pub overflow_step-byte : goal.overflow_step-byte
-overflow_step-byte c = search (rules, laws)
-
-pub bytes-smaller : goal.bytes-smaller
-bytes-smaller c = search (rules, laws)
-
-pub bytes-preserved : goal.bytes-preserved
-bytes-preserved c = search (rules, laws)
 
 pub returns-after-bytes : goal.returns-after-bytes
 returns-after-bytes c = search (rules, laws)

@@ -35,20 +35,8 @@ module _ (a b out : List ℕ) (f : Bool) (ef : f ≡ below (bits_of a) (bits_of 
 
 ruleset laws = (refused, made)
 
-pub is_below-requires : goal.is_below-requires
-is_below-requires c = search (rules, laws)
-
 pub returns-then-not-is_below : goal.returns-then-not-is_below
 returns-then-not-is_below c = search (rules, laws)
-
-pub prefix_len_by_words-n-requires : goal.prefix_len_by_words-n-requires
-prefix_len_by_words-n-requires c = search (rules, laws)
-
-pub overflow_add-n : goal.overflow_add-n
-overflow_add-n c = search (rules, laws)
-
-pub put_first-requires : goal.put_first-requires
-put_first-requires c = search (rules, laws)
 
 pub returns : goal.returns
 returns c = search (rules, laws)
