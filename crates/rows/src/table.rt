@@ -23,27 +23,30 @@ pub fn row_at(t: &[Row], i: usize) -> Row
 }
 
 // The key of row i.
-#[tactic(auto, unfolding(crate::specs::Rows::row_key))]
+#[tactic(auto, unfolding(crate::specs::Rows::row_key, crate::specs::Rows::zero_row))]
 pub fn key_of(t: &[Row], i: usize) -> Key
     ensures answer { key_bits result ≡ row_key t.now i }
 {
-    row_at(t, i).key
+    match t.get(i) {
+        Some(row) => row.key,
+        None => Key::default(),
+    }
 }
 
 // The pointer of row i.
-#[tactic(auto, unfolding(crate::specs::Rows::row_pointer))]
+#[tactic(auto, unfolding(crate::specs::Rows::row_pointer, crate::specs::Rows::zero_row))]
 pub fn pointer_of(t: &[Row], i: usize) -> u64
     ensures answer { result ≡ row_pointer t.now i }
 {
-    row_at(t, i).pointer
+    t.get(i).map_or(0, |row| row.pointer)
 }
 
 // The position in the base of row i.
-#[tactic(auto, unfolding(crate::specs::Rows::row_source))]
+#[tactic(auto, unfolding(crate::specs::Rows::row_source, crate::specs::Rows::zero_row))]
 pub fn source_of(t: &[Row], i: usize) -> u64
     ensures answer { result ≡ row_source t.now i }
 {
-    row_at(t, i).source
+    t.get(i).map_or(0, |row| row.source)
 }
 
 // An entry and its position in the base into row i; nothing where the table has no such row.
