@@ -16,12 +16,6 @@ returns-then-n-eq0 c = search (rules, laws)
 pub loop-i-init : goal.loop-i-init
 loop-i-init c = search (rules, laws)
 
-pub overflow_add-total : goal.overflow_add-total
-overflow_add-total c = search (rules, laws)
-
-pub saved-bits-requires : goal.saved-bits-requires
-saved-bits-requires c = search (rules, laws)
-
 pub loop-i-preserved : goal.loop-i-preserved
 loop-i-preserved c = search (rules, laws)
 

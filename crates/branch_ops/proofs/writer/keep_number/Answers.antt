@@ -7,14 +7,5 @@ use Rattle.branch_ops.proofs.PutLaws.{keep-bits}
 
 ruleset laws = (keep-bits)
 
-pub overflow_add-result : goal.overflow_add-result
-overflow_add-result c = search (rules, laws)
-
-pub overflow_mul-result : goal.overflow_mul-result
-overflow_mul-result c = search (rules, laws)
-
-pub overflow_add-result-2 : goal.overflow_add-result-2
-overflow_add-result-2 c = search (rules, laws)
-
 pub returns : goal.returns
 returns c = search (rules, laws)

@@ -15,29 +15,14 @@ use Rattle.branch_ops.proofs.writer.RecordWriter.finish.Goals as goal
 
 ruleset laws = (short_end, past_end, finish-sub, finish-fits, finish_pad, finish_bytes, size_answer_lem)
 
-pub bytes_for-size-requires : goal.bytes_for-size-requires
-bytes_for-size-requires c = search (rules, laws)
-
 pub returns-then-room-lt2 : goal.returns-then-room-lt2
 returns-then-room-lt2 c = search (rules, laws)
 
 pub returns-then-room-size : goal.returns-then-room-size
 returns-then-room-size c = search (rules, laws)
 
-pub overflow_mul-size : goal.overflow_mul-size
-overflow_mul-size c = search (rules, laws)
-
 pub overflow_sub-size : goal.overflow_sub-size
 overflow_sub-size c = search (rules, laws)
-
-pub put_number-requires : goal.put_number-requires
-put_number-requires c = search (rules, laws)
-
-pub put_number-requires-2 : goal.put_number-requires-2
-put_number-requires-2 c = search (rules, laws)
-
-pub shape_of-d : goal.shape_of-d
-shape_of-d c = search (rules, laws)
 
 pub returns : goal.returns
 returns c = search (rules, laws)

@@ -20,26 +20,14 @@ ruleset laws = (many_writer, many_bytes, full_writer, full_bytes, push_room, pus
 pub returns-then-self-ge-MOST_EDITS : goal.returns-then-self-ge-MOST_EDITS
 returns-then-self-ge-MOST_EDITS c = search (rules, laws)
 
-pub size-size-requires : goal.size-size-requires
-size-size-requires c = search (rules, laws)
-
-pub bytes_for-requires : goal.bytes_for-requires
-bytes_for-requires c = search (rules, laws)
-
 pub returns-then-min-bytes_for : goal.returns-then-min-bytes_for
 returns-then-min-bytes_for c = search (rules, laws)
 
 pub put_edit-requires : goal.put_edit-requires
 put_edit-requires c = search (rules, laws)
 
-pub overflow_add-result : goal.overflow_add-result
-overflow_add-result c = search (rules, laws)
-
 pub overflow_add-result-2 : goal.overflow_add-result-2
 overflow_add-result-2 c = search (rules, laws)
-
-pub shape_of-d : goal.shape_of-d
-shape_of-d c = search (rules, laws)
 
 pub returns : goal.returns
 returns c = search (rules, laws)
