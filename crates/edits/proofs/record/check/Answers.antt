@@ -6,20 +6,11 @@ use Rattle.edits.proofs.record.check.Goals as goal
 
 ruleset laws = (formed_yes, first_10, first_11, first_12, first_0)
 
-pub formed-requires : goal.formed-requires
-formed-requires c = search (rules, laws)
-
 pub returns-then-not-formed : goal.returns-then-not-formed
 returns-then-not-formed c = search (rules, laws)
 
-pub all_inside-requires : goal.all_inside-requires
-all_inside-requires c = search (rules, laws)
-
 pub returns-then-not-all_inside : goal.returns-then-not-all_inside
 returns-then-not-all_inside c = search (rules, laws)
-
-pub count-requires : goal.count-requires
-count-requires c = search (rules, laws)
 
 pub returns-then-count-eq0 : goal.returns-then-count-eq0
 returns-then-count-eq0 c = search (rules, laws)

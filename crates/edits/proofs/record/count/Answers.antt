@@ -6,8 +6,5 @@ use Rattle.edits.proofs.record.count.Goals as goal
 
 ruleset laws = (count_is, count-lt)
 
-pub at_bit-requires : goal.at_bit-requires
-at_bit-requires c = search (rules, laws)
-
 pub returns : goal.returns
 returns c = search (rules, laws)

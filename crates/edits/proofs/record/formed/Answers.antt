@@ -16,17 +16,11 @@ returns-then-s-gt-LONGEST_RECORD c = search (rules, laws)
 pub loop-init : goal.loop-init
 loop-init c = search (rules, laws)
 
-pub span-requires : goal.span-requires
-span-requires c = search (rules, laws)
-
 pub returns-in_default : goal.returns-in_default
 returns-in_default c = search (rules, laws)
 
 pub loop-preserved : goal.loop-preserved
 loop-preserved c = search (rules, laws)
-
-pub padded-requires : goal.padded-requires
-padded-requires c = search (rules, laws)
 
 pub returns : goal.returns
 returns c = search (rules, laws)

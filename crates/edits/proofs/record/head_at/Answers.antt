@@ -6,8 +6,5 @@ use Rattle.edits.proofs.record.head_at.Goals as goal
 
 ruleset laws = (head_is)
 
-pub at_bit-x-requires : goal.at_bit-x-requires
-at_bit-x-requires c = search (rules, laws)
-
 pub returns : goal.returns
 returns c = search (rules, laws)

@@ -7,17 +7,8 @@ use Rattle.edits.proofs.record.padded.Goals as goal
 
 ruleset laws = (pad_long, pad_is)
 
-pub overflow_mul-s : goal.overflow_mul-s
-overflow_mul-s c = search (rules, laws)
-
-pub overflow_sub-s : goal.overflow_sub-s
-overflow_sub-s c = search (rules, laws)
-
 pub returns-then-s-p-ge8 : goal.returns-then-s-p-ge8
 returns-then-s-p-ge8 c = search (rules, laws)
-
-pub at_bit-requires : goal.at_bit-requires
-at_bit-requires c = search (rules, laws)
 
 pub returns : goal.returns
 returns c = search (rules, laws)
