@@ -51,26 +51,26 @@ struct Separator {
 
 impl<'a> Page<'a> {
     // The pointer of entry i.
-    fn node_pointer(&self, i: usize) -> u64
-        requires { i < self.now.header.n }
-        ensures answer { result ≡ pointer_of self.now.bytes.now i }
+    fn node_pointer(self, i: usize) -> u64
+        requires { i < self.header.n }
+        ensures answer { result ≡ pointer_of self.entry.bytes.now i }
     {
         numbers::le_u32(self.bytes, layout::PAGE_SIZE - 4 * self.header.n + 4 * i)
     }
 
     // The prefix, and zeros.
-    fn prefix(&self) -> Key
+    fn prefix(self) -> Key
         ensures answer { key_bits result
-            ≡ fill 256 (take (prefix_length self.now.bytes.now) (body self.now.bytes.now)) }
+            ≡ fill 256 (take (prefix_length self.entry.bytes.now) (body self.entry.bytes.now)) }
     {
         let start = 8 * (layout::HEADER_SIZE + 2 * self.header.n);
         Key::zero().with_bits(0, self.bytes, start, self.header.q)
     }
 
     // The separator between two offsets.
-    fn between(&self, start: usize, end: usize) -> Separator
+    fn between(self, start: usize, end: usize) -> Separator
         requires { start < 65536 }
-        ensures answer { (result.bit ≡ 8 * (10 + 2 * self.now.header.n) + self.now.header.q + start)
+        ensures answer { (result.bit ≡ 8 * (10 + 2 * self.entry.header.n) + self.entry.header.q + start)
             × (result.len ≡ end - start) }
     {
         Separator {
@@ -81,12 +81,12 @@ impl<'a> Page<'a> {
 
     // The key of entry i, out of the prefix and its separator, which starts and ends at two offsets.
     // For the loop over all entries, where most keys end in their first word.
-    fn get_key(&self, prefix: Key, i: usize, start: usize, end: usize) -> Key
+    fn get_key(self, prefix: Key, i: usize, start: usize, end: usize) -> Key
         requires { (key_bits prefix
-            ≡ fill 256 (take (prefix_length self.now.bytes.now) (body self.now.bytes.now)))
-            × (start ≡ start_of self.now.bytes.now i) × (start < 65536)
-            × (end ≡ end_of self.now.bytes.now i) }
-        ensures answer { key_bits result ≡ key_of self.now.bytes.now i }
+            ≡ fill 256 (take (prefix_length self.bytes.now) (body self.bytes.now)))
+            × (start ≡ start_of self.bytes.now i) × (start < 65536)
+            × (end ≡ end_of self.bytes.now i) }
+        ensures answer { key_bits result ≡ key_of self.entry.bytes.now i }
     {
         let s = self.between(start, end);
         prefix.with_few_bits(shape::prefix_bits(self.header, i), self.bytes, s.bit, s.len)
@@ -94,9 +94,9 @@ impl<'a> Page<'a> {
 
     // All entries into the rows of a table, with their positions. Refusal 8: whether the keys are not
     // strictly ascending.
-    fn load_rows(&self, t: &mut [Row]) -> bool
-        ensures answer { result ≡ unordered (key_of self.now.bytes.now) self.now.header.n }
-        ensures written { t.new ≡ with_rows t.old 0 (entries self.now.bytes.now) }
+    fn load_rows(self, t: &mut [Row]) -> bool
+        ensures answer { result ≡ unordered (key_of self.entry.bytes.now) self.entry.header.n }
+        ensures written { t.new ≡ with_rows t.old 0 (entries self.entry.bytes.now) }
     {
         let shared = self.prefix();
         let mut start = 0;
@@ -123,10 +123,10 @@ impl<'a> Page<'a> {
     }
 
     // The key of entry i into 32 bytes, and its pointer.
-    fn copy_entry(&self, i: usize, key_out: &mut [u8; 32]) -> u64
-        requires { i < self.now.header.n }
-        ensures answer { result ≡ pointer_of self.now.bytes.now i }
-        ensures written { key_out.new ≡ pack 32 (key_of self.now.bytes.now i) }
+    fn copy_entry(self, i: usize, key_out: &mut [u8; 32]) -> u64
+        requires { i < self.header.n }
+        ensures answer { result ≡ pointer_of self.entry.bytes.now i }
+        ensures written { key_out.new ≡ pack 32 (key_of self.entry.bytes.now i) }
     {
         let s = self.between(
             shape::start_offset(self.bytes, i),
