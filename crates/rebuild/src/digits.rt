@@ -1,107 +1,39 @@
 // A page number as an argument: decimal digits, below 2^32.
-ghost use Rattle.std.specs.Prelude.{◌<◌};
-
 use crate::files;
-use crate::tell::Tell;
+use crate::tell::Failure;
 use std::rt::Env;
+use std::{fmt, str};
 
-// Whether an argument is a page number, and which.
-#[derive(Drop)]
-pub(crate) struct Number {
-    pub is: bool,
-    pub value: u32,
+// Why an argument is not a page number.
+#[derive(Clone, Copy, Debug, PartialEq, Eq)]
+pub(crate) enum NotANumber {
+    // It has no digits, or something else.
+    NotDigits,
+    // It is 2^32 or more.
+    TooLarge,
 }
 
-// A decimal number as far as it was read: whether all were digits and it is below 2^32, and it.
-#[derive(Drop)]
-struct Sum {
-    digits: bool,
-    fits: bool,
-    value: u64,
-}
-
-// One digit more.
-fn with(s: Sum, x: u8) -> Sum
-    requires { s.value < 4294967296 }
-    ensures { result.value < 4294967296 }
-{
-    if x < b'0' {
-        return Sum {
-            digits: false,
-            fits: s.fits,
-            value: 0,
-        };
-    }
-    if b'9' < x {
-        return Sum {
-            digits: false,
-            fits: s.fits,
-            value: 0,
-        };
-    }
-    let value = 10 * s.value + numbers::over(numbers::wide(x) as usize, 48) as u64;
-    if 0xFFFFFFFF < value {
-        return Sum {
-            digits: s.digits,
-            fits: false,
-            value: 0,
-        };
-    }
-    Sum {
-        digits: s.digits,
-        fits: s.fits,
-        value,
+impl fmt::Display for NotANumber {
+    fn fmt<W: fmt::Write>(&self, f: &mut fmt::Formatter<W>) -> fmt::Result {
+        f.write_str(match self {
+            NotANumber::NotDigits => "not a page number, which has decimal digits",
+            NotANumber::TooLarge => "not a page number, which is below 4294967296",
+        })
     }
 }
 
-fn total(s: &[u8]) -> Sum
-    ensures { result.value < 4294967296 }
-{
-    let mut all = Sum {
-        digits: 0 < s.len(),
-        fits: true,
-        value: 0,
-    };
-    for i in 0..s.len() {
-        all = with(all, s[i]);
-    }
-    all
-}
-
-fn said(rt: &(impl Env + Tell), i: usize, why: &[u8]) -> Number {
-    files::name(rt, i);
-    rt.tell(why);
-    Number {
-        is: false,
-        value: 0,
-    }
-}
-
-fn read(rt: &(impl Env + Tell), i: usize, s: &[u8]) -> Number {
-    let all = total(s);
-    if !all.digits {
-        return said(rt, i, b": not a page number, which has decimal digits\n");
-    }
-    if !all.fits {
-        return said(rt, i, b": not a page number, which is below 4294967296\n");
-    }
-    Number {
-        is: true,
-        value: all.value as u32,
-    }
-}
-
-// The page number that argument i is; what is wrong with it goes to standard error.
-pub(crate) fn argument(rt: &(impl Env + Tell), i: usize) -> Number {
-    let mut text = [0u8; 4096];
-    match rt.arg(i, &mut text) {
-        Ok(n) => read(rt, i, &text[..n]),
-        Err(why) => {
-            files::unread(rt, why);
-            Number {
-                is: false,
-                value: 0,
-            }
+// The number that decimal digits make.
+fn number(s: &[u8]) -> Result<u32, NotANumber> {
+    match str::from_utf8(s) {
+        Ok(text) if !s.is_empty() && s.iter().all(u8::is_ascii_digit) => {
+            text.parse().map_err(|_| NotANumber::TooLarge)
         }
+        _ => Err(NotANumber::NotDigits),
     }
+}
+
+// The page number that argument i is.
+pub(crate) fn argument(rt: &impl Env, i: usize) -> Result<u32, Failure> {
+    let mut text = [0u8; 4096];
+    number(files::argument(rt, i, &mut text)?).map_err(|why| Failure::Number(i, why))
 }

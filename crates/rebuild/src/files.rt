@@ -1,37 +1,66 @@
-// Files by the arguments that name them. Whatever fails is said on standard error, with the name.
+// Files by the arguments that name them.
 ghost use Rattle.std.specs.Prelude.{◌≤◌, length};
 
-use crate::tell;
-use crate::tell::Tell;
+use crate::tell::Failure;
 use std::env::FillError;
 use std::fs::OpenFile;
 use std::io::{ErrorKind, Read, Write};
 use std::rt::{Env, Files};
-use std::{fs, io, str};
+use std::{fmt, fs, io, str};
 
-// Whether a file was read, and how many bytes.
+// Why a file was not read or not written.
 #[derive(Drop)]
-pub(crate) struct Got {
-    pub is: bool,
-    pub len: usize,
+pub(crate) enum FileError {
+    // Its name has no bytes.
+    NoName,
+    // Its name is not text, which each path of std's is.
+    NotText,
+    // It did not end where the reading did.
+    NotEnded,
+    // What the system says.
+    System(io::Error),
 }
 
-// Puts argument i at the start of buf, and answers its length; 0 where it is missing or too long.
-pub(crate) fn argument(rt: &impl Env, i: usize, buf: &mut [u8]) -> usize
-    ensures { result ≤ length buf.new }
-{
-    match rt.arg(i, buf) {
-        Ok(n) => n,
-        Err(_) => 0,
+impl fmt::Display for FileError {
+    fn fmt<W: fmt::Write>(&self, f: &mut fmt::Formatter<W>) -> fmt::Result {
+        match self {
+            FileError::NoName => f.write_str("not a file's name"),
+            FileError::NotText => f.write_str("not a file's name in UTF-8"),
+            FileError::NotEnded => f.write_str("not read to its end"),
+            FileError::System(why) => write!(f, "{why}"),
+        }
     }
 }
 
-// Says why an argument was not read.
-pub(crate) fn unread(rt: &impl Tell, why: FillError) {
-    match why {
-        FillError::NotPresent => rt.tell(b"argument: Invalid argument\n"),
-        FillError::TooLong => rt.tell(b"argument: File name too long\n"),
-    };
+impl From<io::Error> for FileError {
+    fn from(why: io::Error) -> FileError {
+        FileError::System(why)
+    }
+}
+
+// Argument i, which is put at the start of buf.
+pub(crate) fn argument<'b>(
+    rt: &impl Env,
+    i: usize,
+    buf: &'b mut [u8],
+) -> Result<&'b [u8], FillError> {
+    let n = rt.arg(i, buf)?;
+    Ok(&buf[..n])
+}
+
+// Whether two arguments are one name; one that is missing or too long counts as an empty one.
+pub(crate) fn same_names(rt: &impl Env, i: usize, j: usize) -> bool {
+    let mut a = [0u8; 4096];
+    let mut b = [0u8; 4096];
+    argument(rt, i, &mut a).unwrap_or(&[]) == argument(rt, j, &mut b).unwrap_or(&[])
+}
+
+// A name as a path.
+fn as_path(name: &[u8]) -> Result<&str, FileError> {
+    if name.is_empty() {
+        return Err(FileError::NoName);
+    }
+    str::from_utf8(name).map_err(|_| FileError::NotText)
 }
 
 // Reads until buf is full, the file ends or a read fails, and answers how many bytes it put at the
@@ -49,89 +78,29 @@ fn read_full(file: &mut impl Read, buf: &mut [u8]) -> usize
     done
 }
 
-// Whether the file that was read has ended, after n of `room` bytes.
-fn ended(
-    rt: &(impl Tell + Alloc),
-    file: &mut impl Read,
-    path: &[u8],
-    n: usize,
-    room: usize,
-) -> bool {
-    if n == room {
-        return true;
-    }
+// Whether nothing is left of a file.
+fn ended(file: &mut impl Read) -> io::Result<bool> {
     let mut one = [0u8; 1];
-    match file.read(&mut one) {
-        Ok(0) => true,
-        Ok(_) => {
-            rt.tell(path);
-            rt.tell(b": not read to its end\n");
-            false
-        }
-        Err(why) => {
-            tell::fail(rt, path, why);
-            false
-        }
-    }
+    Ok(file.read(&mut one)? == 0)
 }
 
-// A path as text, which each path of std's is; where it is none, that is said.
-fn as_text<'a>(rt: &impl Tell, path: &'a [u8]) -> Option<&'a str> {
-    match str::from_utf8(path) {
-        Ok(text) => Some(text),
-        Err(_) => {
-            rt.tell(path);
-            rt.tell(b": not a file's name in UTF-8\n");
-            None
-        }
+fn read_path<'b>(rt: &impl Files, name: &[u8], buf: &'b mut [u8]) -> Result<&'b [u8], FileError> {
+    let mut file = fs::open(rt, as_path(name)?)?;
+    let n = read_full(&mut file, buf);
+    if n < buf.len() && !ended(&mut file)? {
+        return Err(FileError::NotEnded);
     }
+    Ok(&buf[..n])
 }
 
-fn read_path(rt: &(impl Files + Tell + Alloc), path: &[u8], buf: &mut [u8]) -> Got
-    ensures { result.len ≤ length buf.new }
-{
-    let Some(text) = as_text(rt, path) else {
-        return Got { is: false, len: 0 };
-    };
-    match fs::open(rt, text) {
-        Ok(mut file) => {
-            let len = read_full(&mut file, buf);
-            let is = ended(rt, &mut file, path, len, buf.len());
-            Got { is, len }
-        }
-        Err(why) => {
-            tell::fail(rt, path, why);
-            Got { is: false, len: 0 }
-        }
-    }
-}
-
-// Whether an argument, just read, can be a file's name; if not, it is said why.
-fn is_name(rt: &impl Tell, got: Result<usize, FillError>) -> bool {
-    match got {
-        Ok(0) => {
-            rt.tell(b"(empty): not a file's name\n");
-            false
-        }
-        Ok(_) => true,
-        Err(why) => {
-            unread(rt, why);
-            false
-        }
-    }
-}
-
-// Reads the file that argument i names to the start of buf, as far as that has room.
-pub(crate) fn read(rt: &(impl Env + Files + Tell + Alloc), i: usize, buf: &mut [u8]) -> Got
-    ensures { result.len ≤ length buf.new }
-{
-    let mut path = [0u8; 4096];
-    let got = rt.arg(i, &mut path);
-    if !is_name(rt, got) {
-        return Got { is: false, len: 0 };
-    }
-    let n = got.unwrap_or(0);
-    read_path(rt, &path[..n], buf)
+// The bytes of the file that argument i names, as far as buf has room.
+pub(crate) fn read<'b>(
+    rt: &(impl Env + Files),
+    i: usize,
+    buf: &'b mut [u8],
+) -> Result<&'b [u8], Failure> {
+    let mut name = [0u8; 4096];
+    read_path(rt, argument(rt, i, &mut name)?, buf).map_err(|why| Failure::File(i, why))
 }
 
 // Makes the file hold these bytes. The system is asked to keep them, since an error of the close
@@ -145,46 +114,13 @@ fn overwrite(rt: &impl Files, path: &str, bytes: &[u8]) -> io::Result<()> {
     }
 }
 
-fn write_path(rt: &(impl Files + Tell + Alloc), path: &[u8], bytes: &[u8]) -> bool {
-    let Some(text) = as_text(rt, path) else {
-        return false;
-    };
-    match overwrite(rt, text, bytes) {
-        Ok(()) => true,
-        Err(why) => {
-            tell::fail(rt, path, why);
-            false
-        }
-    }
+fn write_path(rt: &impl Files, name: &[u8], bytes: &[u8]) -> Result<(), FileError> {
+    overwrite(rt, as_path(name)?, bytes)?;
+    Ok(())
 }
 
-// Makes the file that argument i names hold these bytes, and answers whether it does.
-pub(crate) fn write(rt: &(impl Env + Files + Tell + Alloc), i: usize, bytes: &[u8]) -> bool {
-    let mut path = [0u8; 4096];
-    let got = rt.arg(i, &mut path);
-    if !is_name(rt, got) {
-        return false;
-    }
-    let n = got.unwrap_or(0);
-    write_path(rt, &path[..n], bytes)
-}
-
-// Whether two arguments are one name.
-pub(crate) fn same_names(rt: &impl Env, i: usize, j: usize) -> bool {
-    let mut a = [0u8; 4096];
-    let mut b = [0u8; 4096];
-    let n = argument(rt, i, &mut a);
-    let m = argument(rt, j, &mut b);
-    a[..n] == b[..m]
-}
-
-// Writes argument i to standard error; for an empty one, that it is.
-pub(crate) fn name(rt: &(impl Env + Tell), i: usize) {
-    let mut path = [0u8; 4096];
-    let n = argument(rt, i, &mut path);
-    if n == 0 {
-        rt.tell(b"(empty)");
-        return;
-    }
-    rt.tell(&path[..n]);
+// Makes the file that argument i names hold these bytes.
+pub(crate) fn write(rt: &(impl Env + Files), i: usize, bytes: &[u8]) -> Result<(), Failure> {
+    let mut name = [0u8; 4096];
+    write_path(rt, argument(rt, i, &mut name)?, bytes).map_err(|why| Failure::File(i, why))
 }

@@ -3,103 +3,73 @@
 // length before it, in four. Numbers are little-endian; a field that is one has eight bytes.
 ghost use Rattle.std.specs.Prelude.{◌≤◌, length};
 
+use crate::operation::Operation;
+use format::refusal::Refusal;
 use std::fs::File;
+use std::io;
 use std::io::Read;
 
-// The place of a field: the bytes from start up to end, where the next field's length stands.
-#[derive(Drop)]
-pub(crate) struct Part {
-    pub start: usize,
-    pub end: usize,
-}
-
-// How many cases the file has, by its first bytes; none where it has not so many.
-pub(crate) fn how_many(file: &mut File) -> u64 {
+// How many cases the file has, by its first bytes.
+pub(crate) fn how_many(file: &mut File) -> io::Result<u32> {
     let mut head = [0u8; 4];
-    if file.read_exact(&mut head).is_err() {
-        return 0;
-    }
-    numbers::le_u32(&head[..], 0)
+    file.read_exact(&mut head)?;
+    Ok(u32::from_le_bytes(head))
 }
 
-// A case that has been read: its operation, and how many bytes its fields have.
-#[derive(Drop)]
-pub(crate) struct Case {
-    pub op: usize,
-    pub size: usize,
+// A case that has been read.
+#[derive(Clone, Copy)]
+pub(crate) struct Case<'a> {
+    pub op: Operation,
+    pub fields: &'a [u8],
 }
 
-fn opened(head: &[u8; 5]) -> Case {
-    let s = &head[..];
-    Case {
-        op: numbers::byte_at(s, 0) as usize,
-        size: numbers::le_u32(s, 1) as usize,
-    }
-}
-
-// Reads the next case, its fields to the start of buf; operation 0 and no fields where there is
-// none, or where buf has no room for them.
-pub(crate) fn read(file: &mut File, buf: &mut [u8]) -> Case
-    ensures { result.size ≤ length buf.new }
-{
-    let none = Case { op: 0, size: 0 };
+// Reads the next case, its fields to the start of buf. There is none where the file ends before it
+// does, where buf has no room for its fields, or where no operation has its number.
+pub(crate) fn read<'a>(file: &mut File, buf: &'a mut [u8]) -> Option<Case<'a>> {
     let mut head = [0u8; 5];
-    if file.read_exact(&mut head).is_err() {
-        return none;
-    }
-    let c = opened(&head);
-    let size = c.size;
-    if buf.len() < size {
-        return none;
-    }
-    if file.read_exact(&mut buf[0..size]).is_err() {
-        return none;
-    }
-    c
+    file.read_exact(&mut head).ok()?;
+    let [op, a, b, c, d] = head;
+    let size = u32::from_le_bytes([a, b, c, d]) as usize;
+    let fields = buf.get_mut(..size)?;
+    file.read_exact(fields).ok()?;
+    let op = Operation::try_from(op).ok()?;
+    Some(Case { op, fields })
 }
 
-// The field whose length stands at `at`; where s ends before its end, no bytes at the end of s.
-fn field_at(s: &[u8], at: usize) -> Part
-    ensures { (result.start ≤ result.end) × (result.end ≤ length s.now) }
-{
-    let none = Part {
-        start: s.len(),
-        end: s.len(),
-    };
-    if s.len() < 4 {
-        return none;
-    }
-    if s.len() - 4 < at {
-        return none;
-    }
-    let n = numbers::le_u32(s, at) as usize;
-    if s.len() - 4 - at < n {
-        return none;
-    }
-    Part {
-        start: at + 4,
-        end: at + 4 + n,
-    }
+// The first field of s, and what follows it; none where s ends before its end.
+fn split_field(s: &[u8]) -> Option<(&[u8], &[u8])> {
+    let (len, rest) = s.split_first_chunk::<4>()?;
+    rest.split_at_checked(u32::from_le_bytes(*len) as usize)
 }
 
-// The field k, counted from 0.
-pub(crate) fn field(s: &[u8], k: usize) -> Part
-    ensures { (result.start ≤ result.end) × (result.end ≤ length s.now) }
-{
-    let mut f = field_at(s, 0);
+// The field k, counted from 0, if s has it.
+fn find(s: &[u8], k: usize) -> Option<&[u8]> {
+    let mut rest = s;
     for _ in 0..k {
-        f = field_at(s, f.end);
+        rest = split_field(rest)?.1;
     }
-    f
+    Some(split_field(rest)?.0)
 }
 
-// The number in field k, and the largest there is where that has not eight bytes: no answer is it.
-pub(crate) fn number(s: &[u8], k: usize) -> u64 {
-    let f = field(s, k);
-    if f.end - f.start != 8 {
-        return 0xFFFFFFFFFFFFFFFF;
-    }
-    numbers::le_u32(s, f.start) + numbers::le_u32(s, f.start + 4) * 0x100000000
+// The field k; no bytes where s does not have it.
+pub(crate) fn field(s: &[u8], k: usize) -> &[u8] {
+    find(s, k).unwrap_or(&[])
+}
+
+// The number in field k, if that has eight bytes.
+pub(crate) fn number(s: &[u8], k: usize) -> Option<u64> {
+    let bytes = <[u8; 8]>::try_from(field(s, k)).ok()?;
+    Some(u64::from_le_bytes(bytes))
+}
+
+// The number in field k as a size or a place in memory, and the largest there is where it is none.
+pub(crate) fn size(s: &[u8], k: usize) -> usize {
+    number(s, k).map_or(usize::MAX, |n| n as usize)
+}
+
+// The key that field k begins with, if that has so many bytes.
+pub(crate) fn key(s: &[u8], k: usize) -> Option<[u8; 32]> {
+    field(s, k).first_chunk::<32>().copied()
 }
 
 // Puts the bytes of field k at the start of out, as many as it has room for, and answers how many.
@@ -107,23 +77,23 @@ pub(crate) fn load(s: &[u8], k: usize, out: &mut [u8]) -> usize
     ensures { result ≤ length out.new }
 {
     let f = field(s, k);
-    let start = f.start;
-    let n = numbers::least(f.end - start, out.len());
-    for i in 0..n {
-        out[i] = s[start + i];
-    }
+    let n = f.len().min(out.len());
+    out[..n].copy_from_slice(&f[..n]);
     n
 }
 
-// Whether field k has these bytes.
-pub(crate) fn holds(s: &[u8], k: usize, bytes: &[u8]) -> bool {
-    let f = field(s, k);
-    let start = f.start;
-    let end = f.end;
-    &s[start..end] == bytes
-}
-
-// Whether field k has the bytes of a key.
-pub(crate) fn holds_key(s: &[u8], k: usize, key: &[u8; 32]) -> bool {
-    holds(s, k, &key[..])
+// Whether an answer is that of the case: field k has the refusal's number, 0 where there is none, and
+// then what was answered is as it should be.
+pub(crate) fn answers<T: Drop, F: FnOnce(T) -> bool>(
+    s: &[u8],
+    k: usize,
+    answer: Result<T, Refusal>,
+    agrees: F,
+) -> bool
+    requires { F.IsAlwaysCallable agrees }
+{
+    match answer {
+        Ok(x) => number(s, k) == Some(0) && agrees(x),
+        Err(why) => number(s, k) == Some(u64::from(why)),
+    }
 }
