@@ -34,6 +34,6 @@ fn number(s: &[u8]) -> Result<u32, NotANumber> {
 
 // The page number that argument i is.
 pub(crate) fn argument(rt: &impl Env, i: usize) -> Result<u32, Failure> {
-    let mut text = [0u8; 4096];
+    let mut text = [0u8; files::ARGUMENT_ROOM];
     number(files::argument(rt, i, &mut text)?).map_err(|why| Failure::Number(i, why))
 }

@@ -8,6 +8,9 @@ use std::io::{ErrorKind, Read, Write};
 use std::rt::{Env, Files};
 use std::{fmt, fs, io, str};
 
+// How many bytes an argument may have.
+pub(crate) const ARGUMENT_ROOM: usize = 4096;
+
 // Why a file was not read or not written.
 #[derive(Drop)]
 pub(crate) enum FileError {
@@ -50,8 +53,8 @@ pub(crate) fn argument<'b>(
 
 // Whether two arguments are one name; one that is missing or too long counts as an empty one.
 pub(crate) fn same_names(rt: &impl Env, i: usize, j: usize) -> bool {
-    let mut a = [0u8; 4096];
-    let mut b = [0u8; 4096];
+    let mut a = [0u8; ARGUMENT_ROOM];
+    let mut b = [0u8; ARGUMENT_ROOM];
     argument(rt, i, &mut a).unwrap_or(&[]) == argument(rt, j, &mut b).unwrap_or(&[])
 }
 
@@ -99,7 +102,7 @@ pub(crate) fn read<'b>(
     i: usize,
     buf: &'b mut [u8],
 ) -> Result<&'b [u8], Failure> {
-    let mut name = [0u8; 4096];
+    let mut name = [0u8; ARGUMENT_ROOM];
     read_path(rt, argument(rt, i, &mut name)?, buf).map_err(|why| Failure::File(i, why))
 }
 
@@ -121,6 +124,6 @@ fn write_path(rt: &impl Files, name: &[u8], bytes: &[u8]) -> Result<(), FileErro
 
 // Makes the file that argument i names hold these bytes.
 pub(crate) fn write(rt: &(impl Env + Files), i: usize, bytes: &[u8]) -> Result<(), Failure> {
-    let mut name = [0u8; 4096];
+    let mut name = [0u8; ARGUMENT_ROOM];
     write_path(rt, argument(rt, i, &mut name)?, bytes).map_err(|why| Failure::File(i, why))
 }

@@ -134,6 +134,6 @@ fn run(rt: &impl Runtime) -> Result<(), Failure> {
 
 fn main(rt: HostRuntime) {
     if let Err(why) = run(&rt) {
-        why.tell(&rt);
+        why.report(&rt);
     }
 }

@@ -54,7 +54,7 @@ impl From<io::Error> for Failure {
 
 impl Failure {
     // Says it on standard error.
-    pub(crate) fn tell(self, rt: &(impl Env + Tell + Alloc)) {
+    pub(crate) fn report(self, rt: &(impl Env + Tell + Alloc)) {
         match self {
             Failure::Usage => usage(rt),
             Failure::Argument(FillError::NotPresent) => rt.tell(b"argument: Invalid argument\n"),
@@ -90,7 +90,7 @@ fn usage(rt: &impl Tell) {
 
 // Argument i; for an empty one, that it is, as for one that was not read.
 fn name(rt: &(impl Env + Tell), i: usize) {
-    let mut buf = [0u8; 4096];
+    let mut buf = [0u8; files::ARGUMENT_ROOM];
     match files::argument(rt, i, &mut buf) {
         Ok(name) if !name.is_empty() => rt.tell(name),
         _ => rt.tell(b"(empty)"),
