@@ -11,13 +11,11 @@
 mod digits;
 mod files;
 mod records;
-mod say;
 mod show;
 mod tell;
 
 use format::layout;
 use format::refusal::Refusal;
-use say::Fields;
 use shape::Header;
 use std::env::FillError;
 use std::rt::{Env, Files, Runtime};
@@ -94,7 +92,7 @@ fn build_page(rt: &impl Runtime) -> Result<(), Failure> {
         q: v.q,
         bits: v.bits,
     };
-    println!(rt; "{}, undo {}", Fields(h), v.undo)?;
+    println!(rt; "{h}, undo {}", v.undo)?;
     Ok(())
 }
 

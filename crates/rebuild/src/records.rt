@@ -2,7 +2,6 @@
 ghost use Rattle.std.specs.Prelude.{◌<◌};
 
 use crate::LOOKED_AT;
-use crate::say::Line;
 use crate::tell::Failure;
 use edits::record;
 use format::refusal::Refusal;
@@ -14,7 +13,7 @@ fn lines(rt: &impl Print, s: &[u8], n: usize) -> Result<(), Failure>
     let mut p = 10;
     for i in 0..n {
         let e = record::edit_at(s, p);
-        println!(rt; "{i} {}", Line(e))?;
+        println!(rt; "{i} {e}")?;
         p += e.size();
     }
     Ok(())

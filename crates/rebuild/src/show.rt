@@ -1,6 +1,5 @@
 // A page, entry by entry, through its view.
 use crate::LOOKED_AT;
-use crate::say::Fields;
 use crate::tell::Failure;
 use node::reader;
 use shape::Header;
@@ -21,7 +20,7 @@ fn line(rt: &impl Print, page: &[u8], h: Header, i: usize) -> Result<(), Failure
 // A line for the header, if the page is not refused.
 pub(crate) fn header(rt: &impl Print, page: &[u8]) -> Result<Header, Failure> {
     let h = reader::check(page).map_err(|why| Failure::Refused(LOOKED_AT, why))?;
-    println!(rt; "{}", Fields(h))?;
+    println!(rt; "{h}")?;
     Ok(h)
 }
 
