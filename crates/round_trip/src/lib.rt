@@ -36,7 +36,7 @@ impl fmt::Display for TripError {
     fn fmt<W: fmt::Write>(&self, f: &mut fmt::Formatter<W>) -> fmt::Result {
         match self {
             TripError::Differs => f.write_str("the builds differ"),
-            TripError::Refused(why) => write!(f, "{why}"),
+            TripError::Refused(refusal) => write!(f, "{refusal}"),
         }
     }
 }
