@@ -1,5 +1,5 @@
 // The entries that the edits of a record make of a base's, laid into a table row by row while their
-// keys rise. Each row's last word is the entry's position in the base, or 1,024. Document 01, "Edit
+// keys rise. Each row's source is the entry's position in the base, or 1,024. Document 01, "Edit
 // record", and the refusals 10 to 13.
 // What it means: `apply` and `ascending` of format's specs/Edit.antt, and specs/Apply.antt.
 #![tactic(auto)]

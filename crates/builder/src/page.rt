@@ -27,7 +27,7 @@ use rows::table::Row;
 
 // How far the bits of a page are written: n entries, and the end of the last one's separator in
 // bits from the prefix's end.
-#[derive(Clone, Copy)]
+#[derive(Clone, Copy, Debug, PartialEq, Eq)]
 pub struct BranchNodeBuilder {
     pub n: usize,
     pub bit_offset: usize,

@@ -1,4 +1,4 @@
-// What a case tries, and how often it came out otherwise than it should.
+// What a case tries.
 use std::fmt;
 
 // The operations, in the order of their numbers, from 1 on.

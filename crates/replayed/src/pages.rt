@@ -1,6 +1,7 @@
 // The cases of sizes and node. Each function answers whether its case came out as it should: the
 // answer, and every byte of lent memory. A case that is not well formed did not.
 use crate::cases::Fields;
+use format::refusal::Refusal;
 use node::reader;
 
 // Fields: q, sum, n, refusal, size.
@@ -9,16 +10,25 @@ pub(crate) fn body(s: Fields<'_>) -> bool {
     s.answers(3, r, |x| x == s.size(4))
 }
 
+// Fields: the four numbers of a formula, refusal, size.
+fn formula<F: FnOnce(usize, usize, usize, usize) -> Result<usize, Refusal>>(
+    s: Fields<'_>,
+    size: F,
+) -> bool
+    requires { F.IsAlwaysCallable size }
+{
+    let r = size(s.size(0), s.size(1), s.size(2), s.size(3));
+    s.answers(4, r, |x| x == s.size(5))
+}
+
 // Fields: q, sum, n, first length, refusal, size.
 pub(crate) fn whole(s: Fields<'_>) -> bool {
-    let r = sizes::uncompressed_separator_range_size(s.size(0), s.size(1), s.size(2), s.size(3));
-    s.answers(4, r, |x| x == s.size(5))
+    formula(s, sizes::uncompressed_separator_range_size)
 }
 
 // Fields: first length, m, sum of the others, q, refusal, size.
 pub(crate) fn stored(s: Fields<'_>) -> bool {
-    let r = sizes::compressed_separator_range_size(s.size(0), s.size(1), s.size(2), s.size(3));
-    s.answers(4, r, |x| x == s.size(5))
+    formula(s, sizes::compressed_separator_range_size)
 }
 
 // Fields: page, and of its check: refusal, page number, n, m, q, bits; index, and of the entry there:
