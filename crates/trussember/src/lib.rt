@@ -164,8 +164,7 @@ pub extern "C" fn trussember_uncompressed_separator_range_size(
         sum as usize,
         n as usize,
         first as usize,
-    )
-    .into()
+    ).into()
 }
 
 // Stored lengths from whole ones, m of them compressed. Refused with 19.
@@ -183,6 +182,5 @@ pub extern "C" fn trussember_compressed_separator_range_size(
         m as usize,
         others as usize,
         q as usize,
-    )
-    .into()
+    ).into()
 }
