@@ -140,13 +140,15 @@ def written(case):
 
 
 def chosen(cases):
-    """The smallest cases of each operation and answer, in the order of the file."""
+    """The smallest cases of each operation and answer, in the order of the file, none twice."""
     groups = {}
     for case in cases:
         groups.setdefault((case["op"], case["refusal"]), []).append(case)
     taken = []
     for (op, refusal), group in groups.items():
-        group.sort(key=lambda case: (written(case), case["line"]))
+        # of lines that say the same, the first
+        group = {str(facts(case)): case for case in reversed(group)}.values()
+        group = sorted(group, key=lambda case: (written(case), case["line"]))
         most = BUILDS if (op, refusal) == ("build", 0) else SMALLEST
         taken += [case for case in group[:most] if written(case) <= LONGEST]
     return sorted(taken, key=lambda case: case["line"])

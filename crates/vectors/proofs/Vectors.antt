@@ -43,6 +43,11 @@ line_55 : build (hex 21 0xce4bc1bd0300030001000b000e0022002bff510d60 ++ replicat
 unfolding build hex
 line_55 = refl
 
+-- line 89: sep_len, a value
+line_89 : separator_length (bits_of (hex 1 0x30 ++ replicate 31 0)) ≡ 4
+unfolding separator_length bits_of hex
+line_89 = refl
+
 -- line 121: build, refusal 13
 line_121 : build (hex 25 0xdd49ce030500050000000e0016001a00fe0011012358a4da40 ++ replicate 26 0 ++ hex 4 0x030de180 ++ replicate 4022 0 ++ hex 19 0x54740da6556d15b407976eb16123cfaf339890) (hex 88 0x01808d09709e13b7938293d6cfc3421b905eb60f2549eb77b41e907255e490afd1e7b59953f80000e00c042a0048989be8b6e7f78ebe104118927d62cbcdf53d26e293549d88e578045060280edb2c90136886614a010050) 2081438557 (replicate 4096 132) (replicate 59 240) ≡ record { answer = Answer.Refused 13; page = (replicate 4096 132); undo = (replicate 59 240) }
 unfolding build hex
@@ -67,11 +72,6 @@ line_131 = refl
 line_137 : rebuild_key (hex 9 0xcbc7cef7ce144f7641) 8 (hex 41 0x2742d6ad43db75b8b7e7de6fd223715fd26f726ebdbf0c86196f3cab4eedfeacbf45e6a1b3429d6760) 8 254 ≡ Answer.Refused 19
 unfolding rebuild_key bits_of hex
 line_137 = refl
-
--- line 144: sep_len, a value
-line_144 : separator_length (bits_of (replicate 32 0)) ≡ 1
-unfolding separator_length bits_of hex
-line_144 = refl
 
 -- line 145: shared, a value
 line_145 : shared_bits (bits_of (replicate 32 0)) (bits_of (replicate 32 0)) ≡ 256
@@ -127,16 +127,6 @@ line_282 = refl
 line_319 : build (hex 33 0x5d3614930300020000004e007000ffff9c000000000000000002700054399c0024 ++ replicate 4051 0 ++ hex 12 0xffffffffffffffff00000000) (hex 2 0x0000) 1639536968 (replicate 4096 119) (replicate 63 138) ≡ record { answer = Answer.Refused 5; page = (replicate 4096 119); undo = (replicate 63 138) }
 unfolding build hex
 line_319 = refl
-
--- line 343: shared, a value
-line_343 : shared_bits (bits_of (replicate 32 0)) (bits_of (replicate 32 0)) ≡ 256
-unfolding shared_bits bits_of hex
-line_343 = refl
-
--- line 344: separate, refusal 17
-line_344 : separate (bits_of (replicate 32 0)) (bits_of (replicate 32 0)) ≡ Answer.Refused 17
-unfolding separate bits_of hex
-line_344 = refl
 
 -- line 356: copy, a value
 line_356a : bit_copy [] 231 (hex 2 0xf494) 16 0 ≡ Answer.Value []
@@ -242,6 +232,11 @@ line_627 : build (hex 19 0x8f4fd42903000300010007000b001f7f35bcdb ++ replicate 4
 unfolding build hex
 line_627 = refl
 
+-- line 663: separate, refusal 17
+line_663 : separate (bits_of (replicate 31 0 ++ hex 1 0x06)) (bits_of (replicate 32 0)) ≡ Answer.Refused 17
+unfolding separate bits_of hex
+line_663 = refl
+
 -- line 682: build, a value
 line_682 : build [] (hex 38 0x004df355ade588c4627dc55b7e54e0e29396ff2a0e83e5c2d02a576aa35ac6fb73bb3274cb10) 790398740 (replicate 4096 133) (hex 5 0xd0d0d0d0d0) ≡ record { answer = Answer.Value (record { n = 1; m = 1; q = 0; bits = 256; undo = 2 }); page = (hex 44 0x14871c2f0100010000000001df355ade588c4627dc55b7e54e0e29396ff2a0e83e5c2d02a576aa35ac6fb73b ++ replicate 4048 0 ++ hex 4 0xb14c27b3); undo = (hex 5 0x0000d0d0d0) }
 unfolding build hex
@@ -256,6 +251,11 @@ line_715 = refl
 line_759 : build (hex 14 0xcbc051760200c64b01000000d500 ++ replicate 26 255 ++ hex 1 0xfc ++ replicate 4047 0 ++ hex 8 0x11000000ffffffff) (hex 2 0x0000) 2261095250 (replicate 4096 82) (replicate 59 27) ≡ record { answer = Answer.Refused 3; page = (replicate 4096 82); undo = (replicate 59 27) }
 unfolding build hex
 line_759 = refl
+
+-- line 805: shared, a value
+line_805 : shared_bits (bits_of (hex 1 0x80 ++ replicate 31 0)) (bits_of (replicate 32 0)) ≡ 0
+unfolding shared_bits bits_of hex
+line_805 = refl
 
 -- line 834: check, refusal 7
 line_834 : check_page (hex 7 0xdb27fd84a90201 ++ replicate 4081 0 ++ hex 8 0xa1d14117fa07c6ac) ≡ Answer.Refused 7

@@ -1,3 +1,6 @@
+-- `build::build` meets its contract: because what a part refuses is the first that the definition's tests refuse, and after an
+-- accepted plan `finish` writes the definition's page and record.
+-- Assumes nothing.
 use Rattle.std.proofs.Common.{rules}
 use Rattle.build.proofs.build.Goals as goal
 use mathlib.Core.List.{List, ◌++◌}

@@ -1,3 +1,5 @@
+-- `build::finish` meets its contract: because the page over the base is the normal one, and the copied bytes are the record's.
+-- Assumes nothing.
 use Rattle.std.proofs.Common.{rules}
 use Rattle.build.proofs.finish.Goals as goal
 use mathlib.Core.List.{List, ◌++◌}

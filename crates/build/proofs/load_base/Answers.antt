@@ -1,3 +1,5 @@
+-- `build::load_base` meets its contract: because a base of no bytes has no entries, and else the rows read are the page's.
+-- Assumes nothing.
 use Rattle.std.proofs.Common.{rules}
 use Rattle.build.proofs.load_base.Goals as goal
 use mathlib.Core.Path.{sym, ◌∙◌}

@@ -1,3 +1,6 @@
+-- `build::plan` meets its contract: because its parts refuse in the order of the refusals 10 to 15, and else leave the new rows,
+-- their choice and the undo record.
+-- Assumes nothing.
 use Rattle.std.proofs.Common.{rules}
 use Rattle.build.proofs.plan.Goals as goal
 use mathlib.Core.List.{List}

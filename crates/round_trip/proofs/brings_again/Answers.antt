@@ -1,3 +1,5 @@
+-- `round_trip::brings_again` meets its contract: because the build answers and writes as the definition, over blank memory too.
+-- Assumes nothing.
 use Rattle.round_trip.proofs.brings_again.Goals as goal
 use mathlib.Core.Bool.{Bool, true, false, false≢true}
 use mathlib.Core.List.{List}

@@ -1,3 +1,6 @@
+-- `round_trip::brings_back` meets its contract: because both builds answer and write as the definition, and the page between is
+-- tested by `is_normal`.
+-- Assumes nothing.
 use Rattle.round_trip.proofs.brings_back.Goals as goal
 use mathlib.Core.Bool.{Bool, false, true}
 use mathlib.Core.List.{List}

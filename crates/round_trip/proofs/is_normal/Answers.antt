@@ -1,3 +1,6 @@
+-- `round_trip::is_normal` meets its contract: because the entries of an accepted base always have a choice, and what is written
+-- of them is the normal page.
+-- Assumes nothing.
 use Rattle.std.proofs.Common.{rules}
 use Rattle.round_trip.proofs.is_normal.Goals as goal
 use mathlib.Core.Bool.{Bool, false}

@@ -1,3 +1,6 @@
+-- `round_trip::round_trip` meets its contract: because the build is the definition's, and `comes_back` says that the two after it
+-- never differ.
+-- Assumes nothing.
 use Rattle.std.proofs.Common.{rules}
 use Rattle.round_trip.proofs.round_trip.Goals as goal
 use mathlib.Core.Bool.{Bool, false, true}
