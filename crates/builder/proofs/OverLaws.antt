@@ -267,21 +267,24 @@ module _ (base : List ℕ) (bn bm : ℕ) (t : List Row) (m q i : ℕ) (b : Bool)
 
 -- ---- a run is moved
 
-module _ (base : List ℕ) (bn q j k f g x : ℕ) (ef : f ≡ start_of base j) (eg : g ≡ start_of base (j + k))
-    (ex : x ≡ g - f) where
+module _ (base : List ℕ) (bn q j k h f g x : ℕ) (eh : h ≡ 8 * (10 + 2 * bn)) (ef : f ≡ start_of base j)
+    (eg : g ≡ start_of base (j + k)) (ex : x ≡ g - f) where
   moved_length : x ≡ start_of base (j + k) - start_of base j
   moved_length = ex ∙ ap₂ ◌-◌ eg ef
 
-  pub moved : (d d' : List ℕ) (at : ℕ) (r : Result ⊤ Refusal) → Copied d at base (8 * (10 + 2 * bn) + (q + f)) x r d'
+  moved_start : h + (q + f) ≡ 8 * (10 + 2 * bn) + (q + start_of base j)
+  moved_start = ap₂ (λ (a b : ℕ). a + (q + b)) eh ef
+
+  pub moved : (d d' : List ℕ) (at : ℕ) (r : Result ⊤ Refusal) → Copied d at base (h + (q + f)) x r d'
       → at + (start_of base (j + k) - start_of base j) ≤ 8 * length d
       → 8 * (10 + 2 * bn) + (q + start_of base j) + (start_of base (j + k) - start_of base j) ≤ 8 * length base
       → bits_of d'
       ≡ paste (bits_of d) at (drop (8 * (10 + 2 * bn) + (q + start_of base j)) (bits_of base))
       (start_of base (j + k) - start_of base j)
   moved d d' at r c hd hb =
-      copied d at base (8 * (10 + 2 * bn) + (q + f)) x r d' c (omega (arith, moved_length))
+      copied d at base (h + (q + f)) x r d' c (omega (arith, moved_length))
       (omega (arith, moved_length))
-      ∙ ap₂ (λ (a y : ℕ). paste (bits_of d) at (drop (8 * (10 + 2 * bn) + (q + a)) (bits_of base)) y) ef moved_length
+      ∙ ap₂ (λ (a y : ℕ). paste (bits_of d) at (drop a (bits_of base)) y) moved_start moved_length
 
 -- ---- no base
 

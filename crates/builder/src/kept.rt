@@ -1,6 +1,6 @@
 // Rows that a base page has: where their bits stand there, and how far they stand side by side.
 // Which rows: `kept` of specs/Over.antt.
-ghost use Rattle.std.specs.Prelude.{◌≡◌, true, false, ◌≤◌, ◌<◌, length, MatchOption};
+ghost use Rattle.std.specs.Prelude.{◌≡◌, true, false, ◌+◌, ◌*◌, ◌≤◌, ◌<◌, length, MatchOption};
 ghost use Rattle.rows.specs.Rows.{row_source};
 ghost use Rattle.builder.specs.Over.{usable};
 
@@ -51,6 +51,13 @@ impl<'a> Base<'a> {
         Some(Base { page, n, m })
     }
 
+    // The base's first bit behind its offsets, where its prefix begins.
+    pub(crate) fn body_start(&self) -> usize
+        ensures answer { result ≡ 8 * (10 + 2 * self.now.n) }
+    {
+        8 * (layout::HEADER_SIZE + 2 * self.n)
+    }
+
     // Whether the base has row i as the page is to have it.
     pub(crate) fn is_kept(&self, rows: &Rows, i: usize) -> bool
         ensures answer { result ≡ keeps self.now rows.now i }
@@ -66,7 +73,7 @@ impl<'a> Base<'a> {
         let k = table::key_of(rows.table, i);
         let end = shape::cell(self.page, j);
         end == shape::start_offset(self.page, j) + k.separator_len().saturating_sub(rows.q)
-            && 8 * (10 + 2 * self.n) + (rows.q + end) <= 8 * self.page.len()
+            && self.body_start() + (rows.q + end) <= 8 * self.page.len()
     }
 
     // The end of the run of kept rows from i on whose sources are j and on.

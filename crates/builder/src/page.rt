@@ -88,7 +88,7 @@ impl BranchNodeBuilder {
     {
         let from = shape::start_offset(base.page, j);
         let len = shape::start_offset(base.page, j + k).saturating_sub(from);
-        let at = 8 * (10 + 2 * base.n) + (rows.q + from);
+        let at = base.body_start() + (rows.q + from);
         let _ = bit_copy::bitwise_memcpy(part, rows.q + self.bit_offset, base.page, at, len);
         BranchNodeBuilder {
             n: self.n + k,
