@@ -28,8 +28,11 @@ impl<'a> Rows<'a> {
             (λ rows. (fitting table.now n m q ≡ true) × (rows.table.now ≡ table.now)
             × (rows.n ≡ n) × (rows.m ≡ m) × (rows.q ≡ q)) }
     {
+        if n < 1 || 256 < q {
+            return None;
+        }
         let sum = fields::stored_sum(table, n, m, q);
-        if n < 1 || 256 < q || !shape::body_fits(n, q, sum) {
+        if !shape::body_fits(n, q, sum) {
             return None;
         }
         Some(Rows { table, n, m, q })

@@ -2,17 +2,16 @@
 -- In order: the lowest bit; the last bit that is set; the bits that two numbers share; their order.
 -- Not here: those of format's `KeyLaws`.
 -- Assumes nothing.
-use mathlib.Core.Bool.{true, false}
-use mathlib.Core.List.{List, [], ◌∷◌, ◌++◌, append_assoc, append-nil}
+use mathlib.Core.Bool.{Bool, true, false}
+use mathlib.Core.List.{List, [], ◌∷◌, ◌++◌, append_assoc}
 use mathlib.Core.Logic.{⊎_elim}
 use mathlib.Core.Path.{◌≡◌, refl, sym, ap, ap₂, subst, ◌∙◌}
 use Prim.Native.Nat.{ℕ, zero, suc, ◌+◌, ◌-◌, ◌*◌, ◌/◌, ◌%◌, ◌^◌, ◌≤◌, ◌<◌}
 use native.Mathlib.Nat.{zero-add, suc-add, div-one, mod-lt, mod-eq_of_lt, le_of_lt, eq-or-lt_of_le}
 use native.Mathlib.Omega.{arith}
 use native.Mathlib.Decide.{ℕ_discrete}
-use Rattle.std.proofs.Common.{Option, Some, Ordering, Less, Equal, Greater}
-use Rattle.std.specs.Ordering.{MatchOrdering, nat_cmp, is_lt, is_some_and, partial_ordering_then}
-use Rattle.std.proofs.lemmas.Cmp.{ranked}
+use borrow.Author.Tests.{ltb-true, ltb-false}
+use lib.Dec.{ltb}
 use lib.Bits.{bit_xor, xor_shr, xor_add_and, xor_self, and_le_l, and_le_r}
 use lib.Count.{count_trailing_zeros, count_leading_zeros, leading_of_zero, under}
 use lib.Pow.{pow_pos, split, shr_lt, shr_mono, shr-shr}
@@ -20,7 +19,7 @@ use lib.ListN.{length}
 use Rattle.format.specs.Bits.{bits}
 use Rattle.format.specs.Key.{last_set, reach, below, shared_bits}
 use Rattle.facts.proofs.BitsLaws.{length-bits, bits-mod}
-use Rattle.facts.proofs.KeyLaws.{below_irreflexive, below_less, below_more, below_same, below-prefix, shared_bits_more, shared_bits_stop}
+use Rattle.facts.proofs.KeyLaws.{below_less, below_more, below_same, below-prefix, shared_bits_more, shared_bits_stop}
 
 -- the lowest bit is the last
 pub bits_snoc : (w n : ℕ) → bits (suc w) n ≡ bits w (n / 2) ++ (n % 2 ∷ [])
@@ -179,27 +178,20 @@ below-bits_more (suc w) x y xs ys hx hy h =
     (λ (l : y / 2 ^ w < x / 2 ^ w). below_more _ _ _ _ (rw (top w x hx, top w y hy) l))
     (eq-or-lt_of_le (shr_mono w (le_of_lt h)))
 
--- numbers that differ decide, whatever follows, and equal ones leave it to what follows: as a derived order compares
--- one field after another
-pub below_then : (w x y : ℕ) (xs ys : List ℕ) (p : Option Ordering) → x < 2 ^ w → y < 2 ^ w
-    → is_some_and is_lt p ≡ below xs ys
-    → is_some_and is_lt (partial_ordering_then (Some (nat_cmp x y)) p) ≡ below (bits w x ++ xs) (bits w y ++ ys)
-below_then w x y xs ys p hx hy ih = go (nat_cmp x y) (ranked x y (nat_cmp x y) refl)
+-- numbers that differ decide, whatever follows
+pub below_differ : (w x y : ℕ) (xs ys : List ℕ) → x < 2 ^ w → y < 2 ^ w → (x ≡ y → ⊥)
+    → below (bits w x ++ xs) (bits w y ++ ys) ≡ ltb x y
+below_differ w x y xs ys hx hy d = go (ltb x y) refl
   where
-    go : (r : Ordering) → MatchOrdering r (x < y) (x ≡ y) (y < x)
-        → is_some_and is_lt (partial_ordering_then (Some r) p) ≡ below (bits w x ++ xs) (bits w y ++ ys)
-    go Less h = sym (below-bits-less w x y xs ys hx hy h)
-    go Equal h =
-        ih ∙ sym (ap (λ (z : ℕ). below (bits w z ++ xs) (bits w y ++ ys)) h ∙ below-prefix (bits w y) xs ys)
-    go Greater h = sym (below-bits_more w x y xs ys hx hy h)
+    go : (t : Bool) → ltb x y ≡ t → below (bits w x ++ xs) (bits w y ++ ys) ≡ ltb x y
+    go true q = below-bits-less w x y xs ys hx hy (ltb-true x y q) ∙ sym q
+    go false q =
+        ⊎_elim
+        (λ (e : y ≡ x). absurd (d (sym e)))
+        (λ (m : y < x). below-bits_more w x y xs ys hx hy m ∙ sym q)
+        (eq-or-lt_of_le (ltb-false x y q))
 
--- the last of them
-same_alone : (r : Ordering) → is_some_and is_lt (Some r) ≡ is_some_and is_lt (partial_ordering_then (Some r) (Some Equal))
-same_alone Less = refl
-same_alone Equal = refl
-same_alone Greater = refl
-
-pub below_last : (w x y : ℕ) → x < 2 ^ w → y < 2 ^ w → is_some_and is_lt (Some (nat_cmp x y)) ≡ below (bits w x) (bits w y)
-below_last w x y hx hy =
-    same_alone (nat_cmp x y) ∙ below_then w x y [] [] (Some Equal) hx hy (sym (below_irreflexive []))
-    ∙ ap₂ below (append-nil (bits w x)) (append-nil (bits w y))
+-- equal ones leave it to what follows
+pub below_equal : (w x y : ℕ) (xs ys : List ℕ) → x ≡ y → below (bits w x ++ xs) (bits w y ++ ys) ≡ below xs ys
+below_equal w x y xs ys e =
+    ap (λ (z : ℕ). below (bits w z ++ xs) (bits w y ++ ys)) e ∙ below-prefix (bits w y) xs ys

@@ -94,7 +94,16 @@ impl Key {
     pub fn less(self, o: Key) -> bool
         ensures answer { result ≡ below (key_bits self) (key_bits o) }
     {
-        self < o
+        if self.a != o.a {
+            return self.a < o.a;
+        }
+        if self.b != o.b {
+            return self.b < o.b;
+        }
+        if self.c != o.c {
+            return self.c < o.c;
+        }
+        self.d < o.d
     }
 
     // The first q bits of this key, len bits of s from bit `start` on, and zeros up to 256.

@@ -66,7 +66,9 @@ fn blamed(why: Refusal) -> usize {
     if u64::from(why) < 9 { BASE } else { RECORD }
 }
 
-// Builds from files into two buffers, and then into files.
+// Builds from files into two buffers, and then into files. Not inlined, so that a look does not
+// carry its buffers.
+#[inline(never)]
 fn build_page(rt: &impl Runtime) -> Result<(), Failure> {
     let number = digits::argument(rt, NUMBER)?;
     if files::same_names(rt, PAGE, UNDO) {
@@ -96,15 +98,19 @@ fn build_page(rt: &impl Runtime) -> Result<(), Failure> {
     Ok(())
 }
 
-// Looks at the one file that is named, as far as buf has room.
+// Looks at the one file that is named, as far as there is room. The one buffer serves each look; not
+// inlined, so that no other run carries it.
+#[inline(never)]
 fn look<F: FnOnce(&[u8]) -> Result<(), Failure>>(
     rt: &(impl Env + Files),
-    buf: &mut [u8],
+    room: usize,
     at: F,
 ) -> Result<(), Failure>
     requires { F.IsAlwaysCallable at }
 {
-    at(files::read(rt, LOOKED_AT, buf)?)
+    let mut buf = [0u8; RECORD_ROOM];
+    let room = room.min(RECORD_ROOM);
+    at(files::read(rt, LOOKED_AT, &mut buf[..room])?)
 }
 
 // How many words the program was called with, its own name among them; 8 where there are more.
@@ -119,13 +125,9 @@ fn run(rt: &impl Runtime) -> Result<(), Failure> {
     let name = files::argument(rt, 1, &mut name).unwrap_or(&[]);
     match Command::of(name, count_words(rt)) {
         Some(Command::Build) => build_page(rt),
-        Some(Command::Check) => look(rt, &mut [0u8; PAGE_ROOM], |page| {
-            show::header(rt, page).map(|_| ())
-        }),
-        Some(Command::Show) => look(rt, &mut [0u8; PAGE_ROOM], |page| show::page(rt, page)),
-        Some(Command::Record) => {
-            look(rt, &mut [0u8; RECORD_ROOM], |rec| records::record(rt, rec))
-        }
+        Some(Command::Check) => look(rt, PAGE_ROOM, |page| show::header(rt, page).map(|_| ())),
+        Some(Command::Show) => look(rt, PAGE_ROOM, |page| show::page(rt, page)),
+        Some(Command::Record) => look(rt, RECORD_ROOM, |rec| records::record(rt, rec)),
         None => Err(Failure::Usage),
     }
 }

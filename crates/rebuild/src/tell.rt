@@ -53,7 +53,8 @@ impl From<io::Error> for Failure {
 }
 
 impl Failure {
-    // Says it on standard error.
+    // Says it on standard error. Not inlined, so that its buffer takes no stack of the run.
+    #[inline(never)]
     pub(crate) fn report(self, rt: &(impl Env + Tell + Alloc)) {
         match self {
             Failure::Usage => usage(rt),

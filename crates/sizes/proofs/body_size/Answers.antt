@@ -25,7 +25,7 @@ pub returns : goal.returns
 returns c =
     record {
       answer =
-          size_checked _ c.checked_add.result (c.in-Some.cells + c.bytes_for-bytes.result) (c.args.n * 6 + c.bytes_for-bytes.result) 0
+          size_checked _ _ _ (c.args.n * 6 + c.bytes_for-bytes.result) 0
           c.ok_or.ensures.value c.checked_add.ensures (omega (arith, c.in-Some.ensures))
           ∙ size_is _ _ _ _ c.bytes_for-bytes.ensures.answer;
     }

@@ -27,12 +27,12 @@ module _ (q sum n first kept : ℕ) (ek : kept ≡ min q first) where
   none_times : n ≡ 0 → sum + q * n ≡ sum
   none_times z = ap (λ (x : ℕ). sum + q * x) z ∙ omega arith
 
-  none_is : n ≡ 0 → sum < 2 ^ 64 → (r : Result ℕ Refusal) (x : Option ℕ) → r ≡ ok_or x Unrepresentable
-      → SomeIff x (q - kept ≤ sum) (sum - (q - kept)) → size_answer r ≡ whole_from_stored q sum n first
+  none_is : n ≡ 0 → sum < 2 ^ 64 → (a m : ℕ) (r : Result ℕ Refusal) (x : Option ℕ) → r ≡ ok_or x Unrepresentable
+      → SomeIff x (m ≤ a) (a - m) → sum + m ≡ a + (q - kept) → size_answer r ≡ whole_from_stored q sum n first
   unfolding whole_from_stored
-  none_is z l r None e u =
+  none_is z l a m r None e u d =
       ap size_answer e ∙ diff_low (sum + q * n) (q - first) (omega (arith, none_times z, u))
-  none_is z l r (Some y) e u =
+  none_is z l a m r (Some y) e u d =
       ap size_answer e
       ∙ diff_is (sum + q * n) (q - first) y (omega (arith, none_times z, u.0, u.1)) (omega (arith, u.1))
 

@@ -1,8 +1,9 @@
 -- `words::first_bits` meets its contract: behind the first bits stand those of 0 (`bits-zero`).
 -- Assumes nothing.
 use mathlib.Core.List.{List, ◌++◌}
-use mathlib.Core.Path.{ap, ◌∙◌}
+use mathlib.Core.Path.{ap₂, ◌∙◌}
 use Prim.Native.Nat.{ℕ}
+use native.Mathlib.Omega.{arith}
 use lib.ListN.{take}
 use Rattle.format.specs.Bits.{bits, fill}
 use Rattle.words.proofs.NumberLaws.{bits-zero}
@@ -14,5 +15,5 @@ returns c =
     record {
       answer =
           c.joined.ensures.answer
-          ∙ ap (λ (l : List ℕ). take 64 (take c.args.k (bits 64 c.args.x) ++ l)) (bits-zero 64);
+          ∙ ap₂ (λ (j : ℕ) (l : List ℕ). take 64 (take j (bits 64 c.args.x) ++ l)) (omega arith) (bits-zero 64);
     }

@@ -9,6 +9,9 @@ ruleset laws = (no_row, no_prefix, long, few, room, fitted)
 pub returns-then-n-lt1 : goal.returns-then-n-lt1
 returns-then-n-lt1 c = search (rules, laws)
 
+pub returns-then-not-body_fits : goal.returns-then-not-body_fits
+returns-then-not-body_fits c = search (rules, laws)
+
 pub invariant_of-result : goal.invariant_of-result
 invariant_of-result c = search (rules, laws)
 

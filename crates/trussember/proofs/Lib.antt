@@ -1,0 +1,2 @@
+-- Laws that the proofs of trussember share.
+pub mod ToldLaws
