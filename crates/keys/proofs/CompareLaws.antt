@@ -152,7 +152,7 @@ below_low w x y xs ys =
     ap₂ (λ (p q : List ℕ). below (p ++ xs) (q ++ ys)) (sym (bits-mod w w x (omega arith)))
     (sym (bits-mod w w y (omega arith)))
 
-below-bits-less : (w x y : ℕ) (xs ys : List ℕ) → x < 2 ^ w → y < 2 ^ w → x < y
+pub below-bits-less : (w x y : ℕ) (xs ys : List ℕ) → x < 2 ^ w → y < 2 ^ w → x < y
     → below (bits w x ++ xs) (bits w y ++ ys) ≡ true
 unfolding bits
 below-bits-less zero x y xs ys hx hy h = absurd (omega arith)
@@ -165,7 +165,7 @@ below-bits-less (suc w) x y xs ys hx hy h =
     (λ (l : x / 2 ^ w < y / 2 ^ w). below_less _ _ _ _ (rw (top w x hx, top w y hy) l))
     (eq-or-lt_of_le (shr_mono w (le_of_lt h)))
 
-below-bits_more : (w x y : ℕ) (xs ys : List ℕ) → x < 2 ^ w → y < 2 ^ w → y < x
+pub below-bits_more : (w x y : ℕ) (xs ys : List ℕ) → x < 2 ^ w → y < 2 ^ w → y < x
     → below (bits w x ++ xs) (bits w y ++ ys) ≡ false
 unfolding bits
 below-bits_more zero x y xs ys hx hy h = absurd (omega arith)

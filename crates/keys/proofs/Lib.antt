@@ -3,3 +3,4 @@ pub mod CompareLaws
 pub mod KeysLaws
 pub mod BehindLaws
 pub mod UniqueLaws
+pub mod OrderLaws

@@ -98,8 +98,8 @@ fn build_page(rt: &impl Runtime) -> Result<(), Failure> {
     Ok(())
 }
 
-// Looks at the one file that is named, as far as there is room. The one buffer serves each look; not
-// inlined, so that no other run carries it.
+// Looks at the one file that is named, of which it reads no more bytes than there is room for. Not
+// inlined, so that neither a build nor another look carries its buffer.
 #[inline(never)]
 fn look<F: FnOnce(&[u8]) -> Result<(), Failure>>(
     rt: &(impl Env + Files),
