@@ -1,6 +1,8 @@
 -- The derived order of keys is that of their bits: it compares word by word, the first word first.
--- In order: below_then · same_alone below_last · derived_below. Not here: `less`, which has a body of its own (CompareLaws).
+-- In order: below_then · same_alone below_last · derived_below ordered.
+-- Not here: `less`, which has a body of its own (CompareLaws).
 -- Assumes nothing.
+use mathlib.Core.Bool.{Bool}
 use mathlib.Core.List.{List, [], ◌++◌, append-nil}
 use mathlib.Core.Path.{◌≡◌, refl, sym, ap, ap₂, ◌∙◌}
 use Prim.Native.Nat.{ℕ, ◌^◌, ◌<◌}
@@ -49,3 +51,11 @@ derived_below k o v u =
     below_then 64 k.a o.a _ _ _ v.a u.a (below_then 64 k.b o.b _ _ _ v.b u.b (below_then 64 k.c o.c _ _ _ v.c u.c
     (below_last 64 k.d o.d v.d u.d)))
     ∙ sym (ap₂ below (key_bits-words k) (key_bits-words o))
+
+-- the same of an answer, by the bounds that a key's type gives
+pub ordered : (k o : Key) (r : Bool) → r ≡ partial_lt order.TheImpl.partial_cmp-value.it k o
+    → k.a < 2 ^ 64 → k.b < 2 ^ 64 → k.c < 2 ^ 64 → k.d < 2 ^ 64
+    → o.a < 2 ^ 64 → o.b < 2 ^ 64 → o.c < 2 ^ 64 → o.d < 2 ^ 64
+    → r ≡ below (key_bits k) (key_bits o)
+ordered k o r e ka kb kc kd oa ob oc od =
+    e ∙ derived_below k o (record { a = ka; b = kb; c = kc; d = kd }) (record { a = oa; b = ob; c = oc; d = od })

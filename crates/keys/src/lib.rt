@@ -52,21 +52,17 @@ impl Key {
     pub fn separator_len(self) -> usize
         ensures answer { (result ≡ separator_length (key_bits self)) × (1 ≤ result) × (result ≤ 256) }
     {
-        let d = self.d.trailing_zeros() as usize;
-        if d < 64 {
-            return 256 - d;
+        if self.d != 0 {
+            return 256 - self.d.trailing_zeros() as usize;
         }
-        let c = self.c.trailing_zeros() as usize;
-        if c < 64 {
-            return 192 - c;
+        if self.c != 0 {
+            return 192 - self.c.trailing_zeros() as usize;
         }
-        let b = self.b.trailing_zeros() as usize;
-        if b < 64 {
-            return 128 - b;
+        if self.b != 0 {
+            return 128 - self.b.trailing_zeros() as usize;
         }
-        let a = self.a.trailing_zeros() as usize;
-        if a < 64 {
-            return 64 - a;
+        if self.a != 0 {
+            return 64 - self.a.trailing_zeros() as usize;
         }
         1
     }

@@ -139,12 +139,13 @@ impl<'a> Page<'a> {
     }
 }
 
-// Whether key i is not above the one before it, if there is one, or one before it was not.
+// Whether key i is not above the one before it, if there is one, or one before it was not. Keys of a
+// page mostly differ in their first word, where `<` takes less time than `less`.
 fn unrisen(i: usize, before: Key, key: Key, found: bool) -> bool
     ensures answer { result
         ≡ cond (eqb i 0) found (not (below (key_bits before) (key_bits key)) || found) }
 {
-    found || 0 < i && !before.less(key)
+    found || 0 < i && !(before < key)
 }
 
 // Checks a page and puts its entries into the first rows of a table, each with its position; those

@@ -8,6 +8,9 @@ use lib.Dec.{eqb}
 use Rattle.format.specs.Key.{below}
 use Rattle.keys.specs.declared.Key.{Key}
 use Rattle.keys.specs.Keys.{key_bits}
+use Rattle.keys.proofs.OrderLaws.{ordered}
+use Rattle.std.proofs.Common.{rules}
+use Rattle.node.proofs.reader.unrisen.Goals as goal
 
 module _ (i : ℕ) (k l : Key) (f : Bool) where
   first : i ≡ 0 → f ≡ cond (eqb i 0) f (not (below (key_bits k) (key_bits l)) || f)
@@ -20,4 +23,7 @@ module _ (i : ℕ) (k l : Key) (f : Bool) where
     above : not r ≡ false → f ≡ cond (eqb i 0) f (not (below (key_bits k) (key_bits l)) || f)
     above e = sym (ap₂ (λ (x y : Bool). cond x f (y || f)) (ne_eqb i 0 z) (sym (ap not er) ∙ e))
 
-ruleset laws = (first, above, not_above)
+ruleset laws = (ordered, first, above, not_above)
+
+pub returns-then-i-gt0 : goal.returns-then-i-gt0
+returns-then-i-gt0 c = search (rules, laws)
