@@ -86,8 +86,8 @@ impl Key {
         256
     }
 
-    // Whether this key is below the other: what `<` answers too, in less time where the first words
-    // are equal.
+    // Whether this key is below the other: what `<` answers too, in less time where the two are often
+    // equal.
     pub fn less(self, o: Key) -> bool
         ensures answer { result ≡ below (key_bits self) (key_bits o) }
     {

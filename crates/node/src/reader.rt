@@ -140,7 +140,7 @@ impl<'a> Page<'a> {
 }
 
 // Whether key i is not above the one before it, if there is one, or one before it was not. Keys of a
-// page mostly differ in their first word, where `<` takes less time than `less`.
+// page differ, mostly in an early word: `<` takes less time for them than `less`.
 fn unrisen(i: usize, before: Key, key: Key, found: bool) -> bool
     ensures answer { result
         ≡ cond (eqb i 0) found (not (below (key_bits before) (key_bits key)) || found) }

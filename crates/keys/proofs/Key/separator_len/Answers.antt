@@ -44,47 +44,41 @@ module _ (k : Key) where
   unfolding ab abc
   last = key_bits-last k
 
-  in_d : (k.d ≡ 0 → ⊥) → k.d < 2 ^ 64 → 256 - count_trailing_zeros 64 k.d ≡ separator_length (key_bits k)
+  in_d : count_trailing_zeros 64 k.d < 64 → 256 - count_trailing_zeros 64 k.d ≡ separator_length (key_bits k)
   unfolding separator_length
-  in_d z h =
-      let s : count_trailing_zeros 64 k.d < 64 = set_inside k.d z h in
-      omega (arith, s, ap last_set last ∙ last_set_in 64 abc k.d s, length_abc)
+  in_d h = omega (arith, ap last_set last ∙ last_set_in 64 abc k.d h, length_abc)
 
-  module _ (d : k.d ≡ 0) where
+  module _ (d : 64 ≤ count_trailing_zeros 64 k.d) where
     past_d : last_set (key_bits k) ≡ last_set abc
-    past_d = ap last_set last ∙ last_set_before 64 abc k.d (none_set k.d d)
+    past_d = ap last_set last ∙ last_set_before 64 abc k.d d
 
-    in_c : (k.c ≡ 0 → ⊥) → k.c < 2 ^ 64 → 192 - count_trailing_zeros 64 k.c ≡ separator_length (key_bits k)
+    in_c : count_trailing_zeros 64 k.c < 64 → 192 - count_trailing_zeros 64 k.c ≡ separator_length (key_bits k)
     unfolding separator_length abc
-    in_c z h =
-        let s : count_trailing_zeros 64 k.c < 64 = set_inside k.c z h in
-        omega (arith, s, past_d ∙ last_set_in 64 ab k.c s, length_ab)
+    in_c h = omega (arith, past_d ∙ last_set_in 64 ab k.c h, length_ab)
 
-    module _ (c : k.c ≡ 0) where
+    module _ (c : 64 ≤ count_trailing_zeros 64 k.c) where
       past_c : last_set (key_bits k) ≡ last_set ab
       unfolding abc
-      past_c = past_d ∙ last_set_before 64 ab k.c (none_set k.c c)
+      past_c = past_d ∙ last_set_before 64 ab k.c c
 
-      in_b : (k.b ≡ 0 → ⊥) → k.b < 2 ^ 64 → 128 - count_trailing_zeros 64 k.b ≡ separator_length (key_bits k)
+      in_b : count_trailing_zeros 64 k.b < 64 → 128 - count_trailing_zeros 64 k.b ≡ separator_length (key_bits k)
       unfolding separator_length ab
-      in_b z h =
-          let s : count_trailing_zeros 64 k.b < 64 = set_inside k.b z h in
-          omega (arith, s, past_c ∙ last_set_in 64 (bits 64 k.a) k.b s, length-bits 64 k.a)
+      in_b h = omega (arith, past_c ∙ last_set_in 64 (bits 64 k.a) k.b h, length-bits 64 k.a)
 
-      module _ (b : k.b ≡ 0) where
+      module _ (b : 64 ≤ count_trailing_zeros 64 k.b) where
         past_b : last_set (key_bits k) ≡ 64 - count_trailing_zeros 64 k.a
         unfolding ab
-        past_b = past_c ∙ last_set_before 64 (bits 64 k.a) k.b (none_set k.b b) ∙ last_set-bits 64 k.a
+        past_b = past_c ∙ last_set_before 64 (bits 64 k.a) k.b b ∙ last_set-bits 64 k.a
 
-        in_a : (k.a ≡ 0 → ⊥) → k.a < 2 ^ 64 → 64 - count_trailing_zeros 64 k.a ≡ separator_length (key_bits k)
+        in_a : count_trailing_zeros 64 k.a < 64 → 64 - count_trailing_zeros 64 k.a ≡ separator_length (key_bits k)
         unfolding separator_length
-        in_a z h = omega (arith, set_inside k.a z h, past_b)
+        in_a h = omega (arith, past_b)
 
-        none : k.a ≡ 0 → 1 ≡ separator_length (key_bits k)
+        none : 64 ≤ count_trailing_zeros 64 k.a → 1 ≡ separator_length (key_bits k)
         unfolding separator_length
-        none z = omega (arith, past_b, none_set k.a z)
+        none h = omega (arith, past_b)
 
-ruleset laws = (in_a, in_b, in_c, in_d, none)
+ruleset laws = (set_inside, none_set, in_a, in_b, in_c, in_d, none)
 
 pub returns-then-self-ne0 : goal.returns-then-self-ne0
 returns-then-self-ne0 c = search (rules, laws)
